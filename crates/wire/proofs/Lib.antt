@@ -1,0 +1,16 @@
+pub mod Chains
+pub mod Decimals
+pub mod Examined
+pub mod Fills
+pub mod Frames
+pub mod Halves
+pub mod Inverse
+pub mod Laying
+pub mod Luhn
+pub mod Numbers
+pub mod Opens
+pub mod Packing
+pub mod Pieces
+pub mod Reading
+pub mod Trips
+pub mod Writes

@@ -1,0 +1,11 @@
+pub mod Answer
+pub mod Answered
+pub mod Buffer
+pub mod Bytes
+pub mod Card
+pub mod Checks
+pub mod Layout
+pub mod Opening
+pub mod RoundTrip
+pub mod Strip
+pub mod Writing
