@@ -1,0 +1,3 @@
+pub mod Parts
+pub mod Meaning
+pub mod Words

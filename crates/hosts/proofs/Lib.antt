@@ -1,0 +1,3 @@
+mod InPlace
+pub mod Book
+pub mod Drawer

@@ -1,0 +1,5 @@
+pub mod Book
+pub mod BookHost
+pub mod Drawer
+pub mod DrawerHost
+pub mod Examples

@@ -1,0 +1,4 @@
+pub mod Line
+pub mod Digits
+pub mod Split
+pub mod Examples
