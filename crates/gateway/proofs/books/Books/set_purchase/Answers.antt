@@ -1,0 +1,24 @@
+use mathlib.Core.Path.{_≡_, ap, _∙_}
+use native.Mathlib.Omega.{arith}
+use Rattle.std.specs.Of.Vec.{vec-items}
+use Rattle.gateway.specs.Ledger.{ofXid}
+use Rattle.gateway.specs.Sound.{allSound, soundPurchase}
+use Rattle.gateway.proofs.Every.{every-update}
+use Rattle.gateway.proofs.books.Books.set_purchase.Needs as need
+
+pub ghost-self : need.ghost-self
+ghost-self c =
+    let b = c .args .self .now in
+    let e = c .rewrite .ensures in (
+      omega (arith, b .room, e .capacity),
+      (
+        b .memory,
+        (
+          b .places,
+          (
+            b .few,
+            (ap allSound (e .items) ∙ every-update soundPurchase (ofXid (c .args .m .now .xid)) (vec-items (b .purchases)) (c .args .p) (b .sound) (c .pre), (b .totals, tt)),
+          ),
+        ),
+      ),
+    )
