@@ -1,3 +1,5 @@
+pub mod Answering
 pub mod Every
 pub mod Sames
+pub mod Settles
 pub mod Totals

@@ -173,15 +173,22 @@ answered l m reply = record {
 abbrev pub refusedWith : Fields → Outcome → Performed
 refusedWith m o = record { outcome = o; amount = refusedAmount m }
 
+-- the answer to a put that is made again
+abbrev pub putAnswered : Fields → Reply → Performed
+putAnswered m reply = record {
+  outcome = outcomeOf reply;
+  amount = cond (eqb (outcomeCode (outcomeOf reply)) 0) (m .amount) (refusedAmount m);
+}
+
 -- the answer, given the host's reply
-abbrev answerBy : Way → Fields → Performed → Performed
-answerBy (Again a) m answer = a
-answerBy Retry m answer = answer
-answerBy (Stopped o) m answer = refusedWith m o
-answerBy Through m answer = answer
+abbrev answerBy : Way → Ledger → Fields → Reply → Performed
+answerBy (Again a) l m reply = a
+answerBy Retry l m reply = putAnswered m reply
+answerBy (Stopped o) l m reply = refusedWith m o
+answerBy Through l m reply = answered l m reply
 
 abbrev pub answerOf : Ledger → Fields → Reply → Performed
-answerOf l m reply = answerBy (way l m) m (answered l m reply)
+answerOf l m reply = answerBy (way l m) l m reply
 
 -- inquiries are never remembered, and a message refused by 8 or 9 is not
 abbrev pub remembers : Fields → Outcome → Bool
@@ -199,12 +206,12 @@ replaced m answer l = record {
   batches = l .batches;
 }
 
--- the books after, given the host's reply
-abbrev booksBy : Way → Ledger → Fields → Reply → Performed → Ledger
-booksBy (Again a) l m reply answer = l
-booksBy Retry l m reply answer = replaced m answer (moved l m reply)
-booksBy (Stopped o) l m reply answer = remembered m (refusedWith m o) l
-booksBy Through l m reply answer = remembered m answer (moved l m reply)
+-- the books after, given the host's reply; a put that is made again settles the purchase in its row
+abbrev booksBy : Way → Ledger → Fields → Reply → Ledger
+booksBy (Again a) l m reply = l
+booksBy Retry l m reply = replaced m (putAnswered m reply) (onPurchase m (settled reply (m .amount)) l)
+booksBy (Stopped o) l m reply = remembered m (refusedWith m o) l
+booksBy Through l m reply = remembered m (answered l m reply) (moved l m reply)
 
 abbrev pub booksAfter : Ledger → Fields → Reply → Ledger
-booksAfter l m reply = booksBy (way l m) l m reply (answered l m reply)
+booksAfter l m reply = booksBy (way l m) l m reply

@@ -1,11 +1,9 @@
 -- What always holds of the rows of the books, so that no sum wraps and no difference goes below 0.
-use mathlib.Core.Bool.{Bool, true, _&&_, _||_}
+use mathlib.Core.Bool.{Bool, true, _&&_}
 use mathlib.Core.List.{List, [], _∷_}
 use Prim.Native.Nat.{ℕ, suc, _*_}
-use lib.Dec.{eqb, leb}
+use lib.Dec.{leb}
 use lib.IntN.{ℤ, pos, negsuc}
-use Rattle.std.specs.Options.{isSome}
-use mathlib.Core.Bool.{not}
 use Rattle.gateway.specs.declared.batch.Batch.{Batch}
 use Rattle.gateway.specs.declared.purchase.Purchase.{Purchase}
 
@@ -13,11 +11,9 @@ use Rattle.gateway.specs.declared.purchase.Purchase.{Purchase}
 abbrev pub mostPence : ℕ
 mostPence = 99999999
 
--- credited is at most captured, that at most authorised, that at most a message's largest amount;
--- and nothing is captured while in doubt
+-- credited is at most captured, and that at most a message's largest amount
 abbrev pub soundPurchase : Purchase → Bool
-soundPurchase p =
-    leb (p .credited) (p .captured) && (leb (p .captured) (p .authorised) && (leb (p .authorised) mostPence && (not (isSome (p .doubt)) || eqb (p .captured) 0)))
+soundPurchase p = leb (p .credited) (p .captured) && leb (p .captured) mostPence
 
 -- each row passes a test
 abbrev pub every : {R : Type 0} → (R → Bool) → List R → Bool

@@ -25,7 +25,7 @@ pub struct Books {
     ghost memory: { 256 ≤ vec-cap answers },
     ghost places: { 8 ≤ vec-cap batches },
     ghost few: { vec-len answers ≤ 256 },
-    // credited is at most captured, captured at most authorised, and none captured while in doubt
+    // credited is at most captured, and captured at most a message's largest amount
     ghost sound: { allSound (vec-items purchases) ≡ true },
     // each message that moved a total is remembered, and moved it by a message's largest amount at most
     ghost totals: { allWithin (mostTotal (vec-len answers)) (vec-items batches) ≡ true },

@@ -1,6 +1,7 @@
 // What a message makes of its purchase and its batch.
 ghost use mathlib.Core.Path.{_≡_};
-ghost use Rattle.gateway.specs.Rules.{newPurchase, onPut, outcomeOf, settled};
+ghost use Rattle.gateway.specs.Rules.{newBatch, newPurchase, onPut, outcomeOf, settled};
+use crate::batch::Batch;
 use crate::outcome::Outcome;
 use crate::purchase::Purchase;
 use host::PutReply;
@@ -18,6 +19,17 @@ pub fn new_purchase(m: &Fields) -> Purchase
         credited: 0,
         batch: 0,
         doubt: None,
+    }
+}
+
+pub fn new_batch(m: &Fields) -> Batch
+    ensures { λ r. ⌜ r ≡ newBatch (now (m .entry)) ⌝ }
+{
+    Batch {
+        course: m.course,
+        number: m.batch,
+        closed: false,
+        total: 0,
     }
 }
 

@@ -67,177 +67,37 @@ mod tests {
 
     #[test]
     fn authorisation() -> Result<(), Fail> {
-        let fields = Fields {
-            xid: XID,
-            card: 4_111_111_111_111_111,
-            amount: 3000,
-            ..blank(1, 1)
-        };
-        let bytes = [
-            0xfc,
-            0x00,
-            0x01,
-            0x00,
-            0x00,
-            0x00,
-            0x00,
-            0x00,
-            0x00,
-            0x00,
-            0x01,
-            0x00,
-            0x00,
-            0x00,
-            0x09,
-            0x01,
-            0x01,
-            0x01,
-            0x01,
-            0x01,
-            0x01,
-            0x01,
-            0x01,
-            0x01,
-            0x01,
-            0x01,
-            0x01,
-            0x01,
-            0x01,
-            0x01,
-            0x01,
-            0x01,
-            0x01,
-            0x01,
-            0x01,
-            0x41,
-            0x11,
-            0x11,
-            0x11,
-            0x11,
-            0x11,
-            0x11,
-            0x11,
-            0xff,
-            0xff,
-            0x00,
-            0x00,
-            0x00,
-            0x00,
-            0x00,
-            0x00,
-            0x0b,
-            0xb8,
-        ];
-        both_ways(fields, &bytes)
+        let bytes =
+            b"\xfc\x00\x01\x00\x00\x00\x00\x00\x00\x00\x01\x00\x00\x00\x09\x01\x01\x01\x01\x01\x01\x01\x01\x01\x01\x01\x01\x01\x01\x01\x01\x01\x01\x01\x01\x41\x11\x11\x11\x11\x11\x11\x11\xff\xff\x00\x00\x00\x00\x00\x00\x0b\xb8";
+        both_ways(
+            Fields {
+                xid: XID,
+                card: 4_111_111_111_111_111,
+                amount: 3000,
+                ..blank(1, 1)
+            },
+            bytes,
+        )
     }
 
     #[test]
     fn authorisation_reversal() -> Result<(), Fail> {
-        let fields = Fields {
-            xid: XID,
-            amount: 2500,
-            ..blank(2, 2)
-        };
-        let bytes = [
-            0xf4,
-            0x00,
-            0x02,
-            0x00,
-            0x00,
-            0x00,
-            0x00,
-            0x00,
-            0x00,
-            0x00,
-            0x02,
-            0x00,
-            0x00,
-            0x00,
-            0x09,
-            0x01,
-            0x01,
-            0x01,
-            0x01,
-            0x01,
-            0x01,
-            0x01,
-            0x01,
-            0x01,
-            0x01,
-            0x01,
-            0x01,
-            0x01,
-            0x01,
-            0x01,
-            0x01,
-            0x01,
-            0x01,
-            0x01,
-            0x01,
-            0x00,
-            0x00,
-            0x00,
-            0x00,
-            0x00,
-            0x00,
-            0x09,
-            0xc4,
-        ];
-        both_ways(fields, &bytes)
+        let bytes =
+            b"\xf4\x00\x02\x00\x00\x00\x00\x00\x00\x00\x02\x00\x00\x00\x09\x01\x01\x01\x01\x01\x01\x01\x01\x01\x01\x01\x01\x01\x01\x01\x01\x01\x01\x01\x01\x00\x00\x00\x00\x00\x00\x09\xc4";
+        both_ways(
+            Fields {
+                xid: XID,
+                amount: 2500,
+                ..blank(2, 2)
+            },
+            bytes,
+        )
     }
 
-    // Captures, credits and credit reversals share a map.
     #[test]
     fn capture_and_credits() -> Result<(), Fail> {
-        let mut bytes = [
-            0xf6,
-            0x00,
-            0x03,
-            0x00,
-            0x00,
-            0x00,
-            0x00,
-            0x00,
-            0x00,
-            0x00,
-            0x03,
-            0x00,
-            0x00,
-            0x00,
-            0x09,
-            0x01,
-            0x01,
-            0x01,
-            0x01,
-            0x01,
-            0x01,
-            0x01,
-            0x01,
-            0x01,
-            0x01,
-            0x01,
-            0x01,
-            0x01,
-            0x01,
-            0x01,
-            0x01,
-            0x01,
-            0x01,
-            0x01,
-            0x01,
-            0x00,
-            0x00,
-            0x00,
-            0x00,
-            0x00,
-            0x00,
-            0x09,
-            0xc4,
-            0x00,
-            0x00,
-            0x00,
-            0x07,
-        ];
+        let bytes =
+            b"\xf6\x00\x03\x00\x00\x00\x00\x00\x00\x00\x03\x00\x00\x00\x09\x01\x01\x01\x01\x01\x01\x01\x01\x01\x01\x01\x01\x01\x01\x01\x01\x01\x01\x01\x01\x00\x00\x00\x00\x00\x00\x09\xc4\x00\x00\x00\x07";
         both_ways(
             Fields {
                 xid: XID,
@@ -245,168 +105,76 @@ mod tests {
                 batch: 7,
                 ..blank(3, 3)
             },
-            &bytes,
+            bytes,
         )?;
-        bytes[2] = 5;
+        let bytes =
+            b"\xf6\x00\x05\x00\x00\x00\x00\x00\x00\x00\x05\x00\x00\x00\x09\x01\x01\x01\x01\x01\x01\x01\x01\x01\x01\x01\x01\x01\x01\x01\x01\x01\x01\x01\x01\x00\x00\x00\x00\x00\x00\x09\xc4\x00\x00\x00\x07";
         both_ways(
             Fields {
                 xid: XID,
                 amount: 2500,
                 batch: 7,
-                ..blank(5, 3)
+                ..blank(5, 5)
             },
-            &bytes,
+            bytes,
         )?;
-        bytes[2] = 6;
+        let bytes =
+            b"\xf6\x00\x06\x00\x00\x00\x00\x00\x00\x00\x06\x00\x00\x00\x09\x01\x01\x01\x01\x01\x01\x01\x01\x01\x01\x01\x01\x01\x01\x01\x01\x01\x01\x01\x01\x00\x00\x00\x00\x00\x00\x09\xc4\x00\x00\x00\x07";
         both_ways(
             Fields {
                 xid: XID,
                 amount: 2500,
                 batch: 7,
-                ..blank(6, 3)
+                ..blank(6, 6)
             },
-            &bytes,
+            bytes,
         )
     }
 
     #[test]
     fn capture_reversal() -> Result<(), Fail> {
-        let bytes = [
-            0xf2,
-            0x00,
-            0x04,
-            0x00,
-            0x00,
-            0x00,
-            0x00,
-            0x00,
-            0x00,
-            0x00,
-            0x04,
-            0x00,
-            0x00,
-            0x00,
-            0x09,
-            0x01,
-            0x01,
-            0x01,
-            0x01,
-            0x01,
-            0x01,
-            0x01,
-            0x01,
-            0x01,
-            0x01,
-            0x01,
-            0x01,
-            0x01,
-            0x01,
-            0x01,
-            0x01,
-            0x01,
-            0x01,
-            0x01,
-            0x01,
-            0x00,
-            0x00,
-            0x00,
-            0x07,
-        ];
+        let bytes =
+            b"\xf2\x00\x04\x00\x00\x00\x00\x00\x00\x00\x04\x00\x00\x00\x09\x01\x01\x01\x01\x01\x01\x01\x01\x01\x01\x01\x01\x01\x01\x01\x01\x01\x01\x01\x01\x00\x00\x00\x07";
         both_ways(
             Fields {
                 xid: XID,
                 batch: 7,
                 ..blank(4, 4)
             },
-            &bytes,
+            bytes,
         )
     }
 
     #[test]
     fn batch_open_and_close() -> Result<(), Fail> {
-        let mut bytes = [
-            0xe2,
-            0x00,
-            0x07,
-            0x00,
-            0x00,
-            0x00,
-            0x00,
-            0x00,
-            0x00,
-            0x00,
-            0x07,
-            0x00,
-            0x00,
-            0x00,
-            0x09,
-            0x00,
-            0x00,
-            0x00,
-            0x07,
-        ];
+        let bytes = b"\xe2\x00\x07\x00\x00\x00\x00\x00\x00\x00\x07\x00\x00\x00\x09\x00\x00\x00\x07";
         both_ways(
             Fields {
                 batch: 7,
                 ..blank(7, 7)
             },
-            &bytes,
+            bytes,
         )?;
-        bytes[2] = 8;
+        let bytes = b"\xe2\x00\x08\x00\x00\x00\x00\x00\x00\x00\x08\x00\x00\x00\x09\x00\x00\x00\x07";
         both_ways(
             Fields {
                 batch: 7,
-                ..blank(8, 7)
+                ..blank(8, 8)
             },
-            &bytes,
+            bytes,
         )
     }
 
     #[test]
     fn inquiry() -> Result<(), Fail> {
-        let bytes = [
-            0xf0,
-            0x00,
-            0x09,
-            0x00,
-            0x00,
-            0x00,
-            0x00,
-            0x00,
-            0x00,
-            0x00,
-            0x09,
-            0x00,
-            0x00,
-            0x00,
-            0x09,
-            0x01,
-            0x01,
-            0x01,
-            0x01,
-            0x01,
-            0x01,
-            0x01,
-            0x01,
-            0x01,
-            0x01,
-            0x01,
-            0x01,
-            0x01,
-            0x01,
-            0x01,
-            0x01,
-            0x01,
-            0x01,
-            0x01,
-            0x01,
-        ];
+        let bytes =
+            b"\xf0\x00\x09\x00\x00\x00\x00\x00\x00\x00\x09\x00\x00\x00\x09\x01\x01\x01\x01\x01\x01\x01\x01\x01\x01\x01\x01\x01\x01\x01\x01\x01\x01\x01\x01";
         both_ways(
             Fields {
                 xid: XID,
                 ..blank(9, 9)
             },
-            &bytes,
+            bytes,
         )
     }
 }

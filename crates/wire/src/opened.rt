@@ -2,10 +2,13 @@
 // be neither copied nor cloned, so that nothing is performed twice.
 ghost use mathlib.Core.Path.{_≡_};
 ghost use mathlib.Core.Bool.{false};
+ghost use Prim.Native.Nat.{_≤_};
+ghost use Rattle.fields.specs.Kind.{kindNumber};
 ghost use Rattle.std.specs.Options.{isSome};
 ghost use Rattle.wire.specs.Checks.{firstFailing};
 ghost use Rattle.wire.specs.Writing.{trimmed, writingChecks};
 use crate::message::Fields;
+use fields::kind::Kind;
 
 pub mod opening;
 
@@ -20,8 +23,18 @@ pub struct Opened {
 
 impl Opened {
     pub fn fields(&self) -> Fields
-        ensures { λ r. ⌜ r ≡ now (self .entry) .fields ⌝ }
+        ensures value { λ r. ⌜ r ≡ now (self .entry) .fields ⌝ }
+        ensures small { λ r. ⌜ r .amount ≤ 99999999 ⌝ }
     {
         self.fields
+    }
+
+    pub fn kind(&self) -> Kind
+        ensures { λ r. ⌜ kindNumber r ≡ now (self .entry) .fields .kind ⌝ }
+    {
+        match Kind::from_number(self.fields.kind) {
+            Some(kind) => kind,
+            None => unreachable(),
+        }
     }
 }
