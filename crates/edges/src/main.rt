@@ -1,4 +1,6 @@
 //! The edges of the rules: for each a few messages, composed by the writer, and what each was answered.
+#![tactic(auto)]
+
 use anyhow::anyhow;
 use fields::kind::Kind;
 use gateway::{Gateway, Handled};

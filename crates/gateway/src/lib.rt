@@ -1,4 +1,6 @@
 // The gateway: the books, what a message finds in them and makes of them, and performing and handling it.
+#![tactic(auto)]
+
 mod batches;
 mod books;
 mod changes;

@@ -1,5 +1,7 @@
 //! The interface to a bank, known by its meaning alone: what is held, what would be raised, and
 //! what becomes of a call on its way there and back.
+#![tactic(auto)]
+
 ghost use Rattle.host.specs.Meaning.{PutMeans, ReadMeans};
 ghost use Rattle.host.specs.Parts.{Assents, Holdings, PutFates, ReadFates};
 ghost use Rattle.host.specs.Words.{put_word, read_words};

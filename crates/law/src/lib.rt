@@ -1,4 +1,6 @@
 //! The law over runs: what stands after any messages, in any order, over any host, by the history alone.
+#![tactic(auto)]
+
 ghost use Rattle.std.specs.Prelude.{◌≡◌};
 ghost use Rattle.law.specs.Carried.{OwnBytes};
 ghost use Rattle.law.specs.Stands.{LawOverRuns};

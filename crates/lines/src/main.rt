@@ -1,5 +1,7 @@
 //! Puts and reads through a split, over a bad line over an account book on the left and a voucher
 //! drawer on the right, and for each what was asked, what was answered and what is held after.
+#![tactic(auto)]
+
 ghost use Rattle.std.specs.Prelude.{◌≡◌};
 ghost use Rattle.hosts.specs.BookHost.{book_held};
 ghost use Rattle.hosts.specs.DrawerHost.{drawer_held};

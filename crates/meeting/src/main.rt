@@ -1,5 +1,7 @@
 //! A meeting: reads records from standard input, each a length byte and a message, handles each message over an account
 //! book, and prints a line for each: the code and the amount, or `-` in the amount's place where the answer is short.
+#![tactic(auto)]
+
 use anyhow::anyhow;
 use fields::record::{Record, first_record};
 use gateway::Gateway;

@@ -1,4 +1,6 @@
 // Reads a file of records from standard input, opens each message, writes it again, and prints a line for each.
+#![tactic(auto)]
+
 use fields::field;
 use fields::field::Field;
 use fields::kind::Kind;

@@ -1,4 +1,6 @@
 //! One search for every kind of row.
+#![tactic(auto)]
+
 ghost use Rattle.std.specs.Prelude.{◌≡◌, Bool};
 ghost use Rattle.rows.specs.First.{FirstOrNone, Stands, first_with, row_with};
 

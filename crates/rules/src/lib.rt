@@ -1,4 +1,6 @@
 //! The rules of performing: the rows of the books, the checks, what each message moves and answers, and worked examples.
+#![tactic(auto)]
+
 pub mod batch;
 pub mod checks;
 pub mod examples;

@@ -1,4 +1,6 @@
 // Vectors from outside, composed by hand: cards known to pass and to fail the Luhn check, and one message of each kind.
+#![tactic(auto)]
+
 #[cfg(test)]
 mod tests {
     use std::process::Abort;

@@ -1,4 +1,6 @@
 // The message on the wire: bytes to a message and back, and the answers.
+#![tactic(auto)]
+
 ghost use Rattle.std.specs.Prelude.{◌≡◌, ◌^◌, ◌<◌, ◌≤◌, ◌⊎◌, length};
 ghost use Rattle.std.specs.Int.Digits.{number_from_digits, AllBelowBase};
 
