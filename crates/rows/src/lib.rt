@@ -17,7 +17,7 @@ pub trait Keyed {
 
 // Goes through the rows as far as the first that has the key.
 fn scan<R: Keyed>(rows: &[R], key: &R::Key) -> Option<usize>
-    ensures { FirstOrNone (λ row. same row key.now) rows.now result }
+    ensures { FirstOrNone (λ row. R.same row key.now) rows.now result }
 {
     for (place, row) in rows.iter().enumerate() {
         if row.has(key) {
@@ -29,16 +29,16 @@ fn scan<R: Keyed>(rows: &[R], key: &R::Key) -> Option<usize>
 
 /// The place of the first row that has the key, or nothing where no row has it.
 pub fn search<R: Keyed>(rows: &[R], key: &R::Key) -> Option<usize>
-    ensures value { result ≡ first_with (λ row. same row key.now) rows.now }
-    ensures cases { FirstOrNone (λ row. same row key.now) rows.now result }
-    ensures row { Stands (λ row. same row key.now) rows.now result }
+    ensures value { result ≡ first_with (λ row. R.same row key.now) rows.now }
+    ensures cases { FirstOrNone (λ row. R.same row key.now) rows.now result }
+    ensures row { Stands (λ row. R.same row key.now) rows.now result }
 {
     scan(rows, key)
 }
 
 /// A copy of the first row that has the key, or nothing where no row has it.
 pub fn find<R: Keyed + Copy>(rows: &[R], key: &R::Key) -> Option<R>
-    ensures { result ≡ row_with (λ row. same row key.now) rows.now }
+    ensures { result ≡ row_with (λ row. R.same row key.now) rows.now }
 {
     match search(rows, key) {
         Some(place) => Some(rows[place]),

@@ -3,8 +3,8 @@ use Rattle.std.proofs.lemmas.Bool.Decides.{nat_tests}
 use Rattle.fields.proofs.Places.{width_small, widths_to_small, widths_to_more}
 use Rattle.fields.proofs.field.widths_to.Goals as goal
 
-pub overflow-add-total : goal.overflow-add-total
-overflow-add-total c =
+pub overflow_add-total : goal.overflow_add-total
+overflow_add-total c =
     let bound = widths_to_small c.args.map c.loop-bit.bit in
     let small = width_small c.loop-bit.bit in
     search rules

@@ -10,13 +10,13 @@ returns-then-left-other c =
     let f = other_amount c.args.card c.args.reference in
     let more = sum_by_more f c.args.holds.now c.loop-hold.hold-index free_hold c.loop-hold-test.true in
     let part = sum_by-take-le f c.args.holds.now (c.loop-hold.hold-index + 1) in
-    sym (lt-leb _ _ (omega (arith, more, part, c.other-amount-other.ensures, c.loop-hold.invariant)))
+    sym (lt-leb _ _ (omega (arith, more, part, c.other_amount-other.ensures, c.loop-hold.invariant)))
 
 pub loop-hold-preserved : goal.loop-hold-preserved
 loop-hold-preserved c =
     let f = other_amount c.args.card c.args.reference in
     let more = sum_by_more f c.args.holds.now c.loop-hold.hold-index free_hold c.loop-hold-test.true in
-    omega (arith, more, c.other-amount-other.ensures, c.loop-hold.invariant)
+    omega (arith, more, c.other_amount-other.ensures, c.loop-hold.invariant)
 
 pub returns : goal.returns
 returns c =

@@ -9,6 +9,6 @@ returns-in-Some c =
     ap (set c.args.vouchers.now c.in-Some.place) c.changed.ensures
     ∙ sym (update_found (is_voucher c.args.card) (changed c.args.reference c.args.amount) c.args.vouchers.now c.in-Some.place no_voucher c.in-Some.ensures.cases)
 
-pub returns-in-default : goal.returns-in-default
-returns-in-default c =
-    sym (update_none (is_voucher c.args.card) (changed c.args.reference c.args.amount) c.args.vouchers.now c.in-default.ensures.cases)
+pub returns-in_default : goal.returns-in_default
+returns-in_default c =
+    sym (update_none (is_voucher c.args.card) (changed c.args.reference c.args.amount) c.args.vouchers.now c.in_default.ensures.cases)

@@ -13,4 +13,4 @@ returns-then-self-ge-MARKS g c =
 pub returns : goal.returns
 returns g c =
     let line = c.args.self.now in
-    record { fate = c.mark-fate.ensures ∙ sym (mark_next line.marks line.next); marks = mark_spent line.marks line.next; below = refl }
+    record { fate = c.mark_fate.ensures ∙ sym (mark_next line.marks line.next); marks = mark_spent line.marks line.next; below = refl }
