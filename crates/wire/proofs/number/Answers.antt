@@ -7,14 +7,14 @@ use Rattle.wire.proofs.number.Goals as goal
 pub loop-digit-init : goal.loop-digit-init
 loop-digit-init c = (refl, rw pow-zero (omega arith))
 
-pub overflow-mul-value : goal.overflow-mul-value
-overflow-mul-value c =
+pub overflow_mul-value : goal.overflow_mul-value
+overflow_mul-value c =
     let small = digit_small _ _ _ c.requires.under (c.type-inv.digits c.loop-digit.digit-index).fits c.loop-digit-test.true in
     let sum = so_far_fits _ _ _ _ _ refl small c.loop-digit-test.true c.loop-digit.invariant c.requires.positive c.requires.fits in
     record { fits = omega arith }
 
-pub overflow-add-value : goal.overflow-add-value
-overflow-add-value c =
+pub overflow_add-value : goal.overflow_add-value
+overflow_add-value c =
     let small = digit_small _ _ _ c.requires.under (c.type-inv.digits c.loop-digit.digit-index).fits c.loop-digit-test.true in
     record { fits = so_far_fits _ _ _ _ _ c.from.ensures small c.loop-digit-test.true c.loop-digit.invariant c.requires.positive c.requires.fits }
 

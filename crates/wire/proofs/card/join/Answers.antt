@@ -9,13 +9,13 @@ use Rattle.wire.proofs.card.join.Goals as goal
 half_below : (hs : List ℕ) (k : ℕ) → k < length hs → AllBelowBase 16 hs → get_or hs k 0 < 16
 half_below hs k within under = All-get_or (λ h. h < 16) hs k 0 within under
 
-pub overflow-mul-bytes-in-loop-i : goal.overflow-mul-bytes-in-loop-i
-overflow-mul-bytes-in-loop-i c =
+pub overflow_mul-bytes-in-loop-i : goal.overflow_mul-bytes-in-loop-i
+overflow_mul-bytes-in-loop-i c =
     let high = half_below c.args.all.now (2 * c.loop-i.i) (omega arith) c.requires in
     record { fits = omega arith }
 
-pub overflow-add-bytes-in-loop-i : goal.overflow-add-bytes-in-loop-i
-overflow-add-bytes-in-loop-i c =
+pub overflow_add-bytes-in-loop-i : goal.overflow_add-bytes-in-loop-i
+overflow_add-bytes-in-loop-i c =
     let high = half_below c.args.all.now (2 * c.loop-i.i) (omega arith) c.requires in
     let low = half_below c.args.all.now (2 * c.loop-i.i + 1) (omega arith) c.requires in
     record { fits = omega arith }

@@ -7,8 +7,8 @@ returns c =
     let m = c.args.fields.now in
     let k = kind_number c.in-Some.kind in
     let known = c.in-Some.ensures in
-    let told = c.in-Some-card-bytes.ensures in (
+    let told = c.in-Some-card_bytes.ensures in (
       kind_is m k known,
-      parts_are m k known c.in-Some-card-bytes.card told,
-      none_refused m k known c.in-Some-card-bytes.card told c.allows.result c.amount-of.result c.amount-of.ensures c.allows.ensures c.if-not-allows.false,
+      parts_are m k known c.in-Some-card_bytes.card told,
+      none_refused m k known c.in-Some-card_bytes.card told c.allows.result c.amount_of.result c.amount_of.ensures c.allows.ensures c.if-not-allows.false,
     )

@@ -5,11 +5,11 @@ use Rattle.wire.specs.Card.{halves, digits_in, passes_luhn}
 use Rattle.wire.proofs.Halves.{found, digits_under, tens_fit}
 use Rattle.wire.proofs.strip.Strip.card.Goals as goal
 
-pub returns-then-not-passes-luhn : goal.returns-then-not-passes-luhn
-returns-then-not-passes-luhn c =
+pub returns-then-not-passes_luhn : goal.returns-then-not-passes_luhn
+returns-then-not-passes_luhn c =
     let f = found c.args.bytes.now c.split-all.result c.in-Some.count c.split-all.ensures c.in-Some.ensures in
-    let fails = c.passes-luhn.ensures.value ∙ ap passes_luhn f.part in
-    record { value = grind (arith, nat_tests); after = c.passes-luhn.ensures.after; held = c.passes-luhn.ensures.held }
+    let fails = c.passes_luhn.ensures.value ∙ ap passes_luhn f.part in
+    record { value = grind (arith, nat_tests); after = c.passes_luhn.ensures.after; held = c.passes_luhn.ensures.held }
 
 pub number-requires : goal.number-requires
 number-requires c =
@@ -23,6 +23,6 @@ number-requires c =
 pub returns : goal.returns
 returns c =
     let f = found c.args.bytes.now c.split-all.result c.in-Some.count c.split-all.ensures c.in-Some.ensures in
-    let passes = c.passes-luhn.ensures.value ∙ ap passes_luhn f.part in
+    let passes = c.passes_luhn.ensures.value ∙ ap passes_luhn f.part in
     let is = c.number.ensures.value ∙ ap (number_from_digits 10) f.part in
-    record { value = grind (arith, nat_tests); after = c.passes-luhn.ensures.after; held = c.passes-luhn.ensures.held }
+    record { value = grind (arith, nat_tests); after = c.passes_luhn.ensures.after; held = c.passes_luhn.ensures.held }
