@@ -9,18 +9,18 @@ loop-digit-init c = (refl, rw pow-zero (omega arith))
 
 pub overflow_mul-value : goal.overflow_mul-value
 overflow_mul-value c =
-    let small = digit_small _ _ _ c.requires.under (c.type-inv.digits c.loop-digit.digit-index).fits c.loop-digit-test.true in
+    let small = digit_small _ _ _ c.requires.under (c.type_inv.digits c.loop-digit.digit-index).fits c.loop-digit-test.true in
     let sum = so_far_fits _ _ _ _ _ refl small c.loop-digit-test.true c.loop-digit.invariant c.requires.positive c.requires.fits in
     record { fits = omega arith }
 
 pub overflow_add-value : goal.overflow_add-value
 overflow_add-value c =
-    let small = digit_small _ _ _ c.requires.under (c.type-inv.digits c.loop-digit.digit-index).fits c.loop-digit-test.true in
+    let small = digit_small _ _ _ c.requires.under (c.type_inv.digits c.loop-digit.digit-index).fits c.loop-digit-test.true in
     record { fits = so_far_fits _ _ _ _ _ c.from.ensures small c.loop-digit-test.true c.loop-digit.invariant c.requires.positive c.requires.fits }
 
 pub loop-digit-preserved : goal.loop-digit-preserved
 loop-digit-preserved c =
-    let small = digit_small _ _ _ c.requires.under (c.type-inv.digits c.loop-digit.digit-index).fits c.loop-digit-test.true in
+    let small = digit_small _ _ _ c.requires.under (c.type_inv.digits c.loop-digit.digit-index).fits c.loop-digit-test.true in
     so_far_more _ _ _ _ _ c.from.ensures small c.loop-digit-test.true c.loop-digit.invariant
 
 pub returns : goal.returns

@@ -8,7 +8,7 @@ pub loop-digit-preserved : goal.loop-digit-preserved
 loop-digit-preserved c =
     let i = c.loop-digit.digit-index in
     let ds = c.args.digits.now in
-    let small = weight_small (c.loop-digit.left - 1) (get_or ds i 0) (c.type-inv.digits i).fits in
+    let small = weight_small (c.loop-digit.left - 1) (get_or ds i 0) (c.type_inv.digits i).fits in
     let more = luhn_more ds i c.loop-digit.left c.loop-digit-test.true c.loop-digit.invariant.1 in
     (omega arith, omega arith, omega arith)
 

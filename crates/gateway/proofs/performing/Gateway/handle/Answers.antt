@@ -43,7 +43,7 @@ returns-in-Ok g c =
     let long : ltb (length strip) strip_length ≡ false = (or_parts (ltb (length buffer) 24) (ltb (length strip) strip_length) room).1 in
     let is : opened b ≡ Ok m = sym (c.in-Ok.ensures.value ∙ opened_on (length strip) b long) in
     let blank : strip' ≡ blanked strip = c.open.ensures.after ∙ cond-false (ltb (length strip) strip_length) strip (blanked strip) long in
-    let are : Bytes b = All-from_get_or (λ x. x < 256) b 0 (λ i within. (c.type-inv.message i).fits) in
+    let are : Bytes b = All-from_get_or (λ x. x < 256) b 0 (λ i within. (c.type_inv.message i).fits) in
     record {
       rules = performed h.held h.assent h.put_fate h.read_fate (no_room buffer strip) b l host buffer strip room l' host' buffer' strip' blank m is c.kind-kind.result c.kind-kind.ensures c.answer-full.result c.answer-full.ensures.rules c.answer-full.ensures.after;
       law = performed_law h.held h.assent h.put_fate h.read_fate (no_room buffer strip) b l host buffer strip room l' host' buffer' strip' blank m is are c.answer-full.result c.answer-full.ensures.law;
@@ -64,7 +64,7 @@ returns-in-Err g c =
     let long : ltb (length strip) strip_length ≡ false = (or_parts (ltb (length buffer) 24) (ltb (length strip) strip_length) room).1 in
     let is : opened b ≡ Err (refusal_number refusal) = sym (c.in-Err.ensures.value ∙ opened_on (length strip) b long) in
     let blank : strip' ≡ blanked strip = c.open.ensures.after ∙ cond-false (ltb (length strip) strip_length) strip (blanked strip) long in
-    let are : Bytes b = All-from_get_or (λ x. x < 256) b 0 (λ i within. (c.type-inv.message i).fits) in
+    let are : Bytes b = All-from_get_or (λ x. x < 256) b 0 (λ i within. (c.type_inv.message i).fits) in
     record {
       rules =
           refused h.held h.assent h.put_fate h.read_fate (no_room buffer strip) b l host buffer strip room l host buffer' strip' blank refl refl refusal is

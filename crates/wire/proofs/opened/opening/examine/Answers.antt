@@ -29,18 +29,16 @@ invariant_of-result c =
     let b = c.args.message.now in
     let opens : opening b ≡ Ok m =
     sym (opened_is b c.in_ok-kind.kind ok.0 c.in_ok-kind.parts ok.1 c.in-Some.card c.in-Some.ensures.value c.allows.result c.allows.ensures c.if-not-allows.false) in
-    let are : Bytes b = All-from_get_or (λ x. x < 256) b 0 (λ i within. (c.type-inv.message i).fits) in
+    let are : Bytes b = All-from_get_or (λ x. x < 256) b 0 (λ i within. (c.type_inv.message i).fits) in
     let own = own_bytes b are m opens in
-    let again = went_through (first_failing (opening_checks b)) (message_in b) m opens in (
-      formed.0,
-      (
-        formed.1,
-        (
-          ap (λ x. is_some (first_failing (opening_checks x))) own ∙ ap is_some again.0,
-          (ap message_in own ∙ again.1, ((λ k within. subst (λ x. get_or x k 0 < 256) (sym own) (c.type-inv.message k).fits), tt)),
-        ),
-      ),
-    )
+    let again = went_through (first_failing (opening_checks b)) (message_in b) m opens in
+    record {
+      trim = formed.0;
+      accepted = formed.1;
+      opens = ap (λ x. is_some (first_failing (opening_checks x))) own ∙ ap is_some again.0;
+      spelled = ap message_in own ∙ again.1;
+      bytes = λ k within. subst (λ x. get_or x k 0 < 256) (sym own) (c.type_inv.message k).fits;
+    }
 
 pub returns : goal.returns
 returns c =

@@ -18,6 +18,6 @@ returns c =
     c.drop-guard.ensures ∙ c.examine.ensures.after ∙ sym (cond-false (ltb (length strip) strip_length) strip (blanked strip) enough) in
     record {
       value = c.examine.ensures.value ∙ sym (ap (λ o. unless o (message_in b)) (passes 1 (ltb (length strip) strip_length) (opening_checks b) enough));
-      inverse = opening_inverts (length strip) b (answered c.examine.result) (All-from_get_or (λ x. x < 256) b 0 (λ i within. (c.type-inv.message i).fits)) c.examine.ensures.value;
+      inverse = opening_inverts (length strip) b (answered c.examine.result) (All-from_get_or (λ x. x < 256) b 0 (λ i within. (c.type_inv.message i).fits)) c.examine.ensures.value;
       after = let held = sym c.examine.ensures.held in search rules;
     }
