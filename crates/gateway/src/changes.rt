@@ -18,7 +18,7 @@ use wire::message::Fields;
 
 // The first row that has the key becomes this one.
 fn rewrite<R: Keyed + Copy>(rows: &mut Vec<R>, key: &R::Key, row: R)
-    ensures items { rows.new.items ≡ update_first (λ x. same x key.now) (λ _. row) rows.old.items }
+    ensures items { rows.new.items ≡ update_first (λ x. R.same x key.now) (λ _. row) rows.old.items }
     ensures len { vec_len rows.new ≡ vec_len rows.old }
     ensures capacity { vec_capacity rows.new ≡ vec_capacity rows.old }
 {

@@ -30,16 +30,16 @@ returns c =
     ap (λ x. (batch_of x m).total) here
     ∙ ap (λ found. (unwrap_or found no_batch).total) (row_update sought shut (λ b is. is) l.batches)
     ∙ total_stays (batch_row l m) in
-    let amount : c.total-bits.result ≡ of_z w64 (batch_of (moved l m uncalled) m).total =
-    c.total-bits.ensures
+    let amount : c.total_bits.result ≡ of_z w64 (batch_of (moved l m uncalled) m).total =
+    c.total_bits.ensures
     ∙ ap (λ f. of_z w64 (unwrap_or f.batch no_batch).total) c.facts-facts.ensures
     ∙ ap (of_z w64) (sym total) in
-    let value : paid c.total-bits.result ≡ answered l m uncalled = ap paid amount ∙ sym (answered_at l m 8 kind uncalled) in
+    let value : paid c.total_bits.result ≡ answered l m uncalled = ap paid amount ∙ sym (answered_at l m 8 kind uncalled) in
     record {
       value = value;
       rows =
           c.remember.ensures.rows
-          ∙ ap (noted m (paid c.total-bits.result)) (c.shut.ensures.rows ∙ sym here)
+          ∙ ap (noted m (paid c.total_bits.result)) (c.shut.ensures.rows ∙ sym here)
           ∙ ap (λ a. noted m a (moved l m uncalled)) value
           ∙ sym (remembered_at l m 8 kind uncalled (answered l m uncalled) (moved l m uncalled) refl);
     }

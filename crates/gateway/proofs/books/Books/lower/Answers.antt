@@ -10,12 +10,12 @@ returns c =
     let m = c.args.m.now in
     let reply = on_put c.args.reply in
     let kind = c.requires.kind in
-    let value = c.put-answer-answer.ensures ∙ sym (answered_at l m 2 kind reply) in
+    let value = c.put_answer-answer.ensures ∙ sym (answered_at l m 2 kind reply) in
     record {
       value = value;
       rows =
           c.remember.ensures.rows
-          ∙ ap (noted m c.put-answer-answer.result) (c.settle.ensures.rows ∙ sym (moved_at l m 2 kind reply))
+          ∙ ap (noted m c.put_answer-answer.result) (c.settle.ensures.rows ∙ sym (moved_at l m 2 kind reply))
           ∙ ap (λ a. noted m a (moved l m reply)) value
           ∙ sym (remembered_at l m 2 kind reply (answered l m reply) (moved l m reply) (put_kept c.args.reply));
     }

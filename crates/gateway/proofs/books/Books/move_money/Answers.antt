@@ -10,9 +10,9 @@ pub returns-in-CapReq : goal.returns-in-CapReq
 returns-in-CapReq c =
     let l = shown c.args.self.now in
     let m = c.args.m.now in
-    let row = c.rows-of.ensures in
+    let row = c.rows_of.ensures in
     let both =
-    booked l m 3 (c.requires.same ∙ ap kind_number c.in-CapReq.is) (with_captured m.amount m.batch) (λ b. with_total (b.total +ℤ pos m.amount) b) c.rows-of.result.0 c.rows-of.result.1 row.purchase row.batch
+    booked l m 3 (c.requires.same ∙ ap kind_number c.in-CapReq.is) (with_captured m.amount m.batch) (λ b. with_total (b.total +ℤ pos m.amount) b) c.rows_of.result.0 c.rows_of.result.1 row.purchase row.batch
     (λ p. refl) refl (λ x. refl) refl c.captured.result c.added.result c.captured.ensures c.added.ensures c.book.result (shown c.book.new.self) c.book.ensures.value c.book.ensures.rows in
     record { value = both.0; rows = both.1 }
 
@@ -20,9 +20,9 @@ pub returns-in-CapRevReq : goal.returns-in-CapRevReq
 returns-in-CapRevReq c =
     let l = shown c.args.self.now in
     let m = c.args.m.now in
-    let row = c.rows-of.ensures in
-    let p = c.rows-of.result.0 in
-    let b = c.rows-of.result.1 in
+    let row = c.rows_of.ensures in
+    let p = c.rows_of.result.0 in
+    let b = c.rows_of.result.1 in
     let own : purchase_of l m ≡ p = ap (λ found. unwrap_or found no_purchase) row.purchase in
     let both =
     booked l m 4 (c.requires.same ∙ ap kind_number c.in-CapRevReq.is) (λ q. with_captured 0 q.batch q) (λ x. with_total (x.total -ℤ pos (purchase_of l m).captured) x) p b row.purchase row.batch (λ q. refl) refl (λ x. refl) refl
@@ -34,9 +34,9 @@ pub returns-in-CredReq : goal.returns-in-CredReq
 returns-in-CredReq c =
     let l = shown c.args.self.now in
     let m = c.args.m.now in
-    let row = c.rows-of.ensures in
+    let row = c.rows_of.ensures in
     let both =
-    booked l m 5 (c.requires.same ∙ ap kind_number c.in-CredReq.is) (λ p. with_credited (p.credited + m.amount) p) (λ b. with_total (b.total -ℤ pos m.amount) b) c.rows-of.result.0 c.rows-of.result.1 row.purchase row.batch
+    booked l m 5 (c.requires.same ∙ ap kind_number c.in-CredReq.is) (λ p. with_credited (p.credited + m.amount) p) (λ b. with_total (b.total -ℤ pos m.amount) b) c.rows_of.result.0 c.rows_of.result.1 row.purchase row.batch
     (λ p. refl) refl (λ x. refl) refl c.credited.result c.taken-in-CredReq.result c.credited.ensures c.taken-in-CredReq.ensures
     c.book-in-CredReq.result (shown c.book-in-CredReq.new.self) c.book-in-CredReq.ensures.value c.book-in-CredReq.ensures.rows in
     record { value = both.0; rows = both.1 }
@@ -45,9 +45,9 @@ pub returns-in-CredRevReq : goal.returns-in-CredRevReq
 returns-in-CredRevReq c =
     let l = shown c.args.self.now in
     let m = c.args.m.now in
-    let row = c.rows-of.ensures in
+    let row = c.rows_of.ensures in
     let both =
-    booked l m 6 (c.requires.same ∙ ap kind_number c.in-CredRevReq.is) (λ p. with_credited (p.credited - m.amount) p) (λ b. with_total (b.total +ℤ pos m.amount) b) c.rows-of.result.0 c.rows-of.result.1 row.purchase row.batch
+    booked l m 6 (c.requires.same ∙ ap kind_number c.in-CredRevReq.is) (λ p. with_credited (p.credited - m.amount) p) (λ b. with_total (b.total +ℤ pos m.amount) b) c.rows_of.result.0 c.rows_of.result.1 row.purchase row.batch
     (λ p. refl) refl (λ x. refl) refl c.credited-in-CredRevReq.result c.added-in-CredRevReq.result c.credited-in-CredRevReq.ensures c.added-in-CredRevReq.ensures
     c.book-in-CredRevReq.result (shown c.book-in-CredRevReq.new.self) c.book-in-CredRevReq.ensures.value c.book-in-CredRevReq.ensures.rows in
     record { value = both.0; rows = both.1 }

@@ -23,7 +23,7 @@ returns c =
       value = value;
       rows =
           c.remember.ensures.rows
-          ∙ ap (noted m opened) (c.push-batch.ensures.rows ∙ ap (with_batch l) c.new-batch.ensures ∙ sym (moved_at l m 7 kind uncalled))
+          ∙ ap (noted m opened) (c.push_batch.ensures.rows ∙ ap (with_batch l) c.new_batch.ensures ∙ sym (moved_at l m 7 kind uncalled))
           ∙ ap (λ a. noted m a (moved l m uncalled)) value
           ∙ sym (remembered_at l m 7 kind uncalled (answered l m uncalled) (moved l m uncalled) refl);
     }

@@ -18,17 +18,17 @@ returns-in-Some c =
     let b = c.args.self.now in
     let m = c.args.m.now in
     let sought = of_request m.course m.request in
-    let row : row_with sought (vec_items b.answers) ≡ Some c.in-Some.r = ap (row_with sought) (sym c.as-slice.ensures.value) ∙ sym c.in-Some.ensures in
+    let row : row_with sought (vec_items b.answers) ≡ Some c.in-Some.r = ap (row_with sought) (sym c.as_slice.ensures.value) ∙ sym c.in-Some.ensures in
     record {
       rows = ap (with_answers (shown b)) (c.rewrite.ensures.items ∙ update_const sought (answering c.args.answer) (vec_items b.answers) c.in-Some.r row);
     }
 
-pub returns-in-default : goal.returns-in-default
-returns-in-default c =
+pub returns-in_default : goal.returns-in_default
+returns-in_default c =
     let b = c.args.self.now in
     let m = c.args.m.now in
     let sought = of_request m.course m.request in
-    let row : row_with sought (vec_items b.answers) ≡ None = ap (row_with sought) (sym c.as-slice.ensures.value) ∙ sym c.in-default.ensures in
+    let row : row_with sought (vec_items b.answers) ≡ None = ap (row_with sought) (sym c.as_slice.ensures.value) ∙ sym c.in_default.ensures in
     record {
       rows = ap (with_answers (shown b)) (sym (update_nothing sought (answering c.args.answer) (vec_items b.answers) row));
     }

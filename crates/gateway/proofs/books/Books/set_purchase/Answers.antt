@@ -4,19 +4,15 @@ use Rattle.rules.specs.Sound.{all_sound, sound_purchase}
 use Rattle.rules.proofs.Every.{every_update}
 use Rattle.gateway.proofs.books.Books.set_purchase.Goals as goal
 
-pub invariant-of-self : goal.invariant-of-self
-invariant-of-self c =
+pub invariant_of-self : goal.invariant_of-self
+invariant_of-self c =
     let b = c.args.self.now in
-    let e = c.rewrite.ensures in (
-      omega (arith, b.room, e.capacity),
-      (
-        b.memory,
-        (
-          b.places,
-          (
-            b.few,
-            (ap all_sound e.items ∙ every_update sound_purchase (of_xid c.args.m.now.xid) (vec_items b.purchases) c.args.p b.sound c.requires, (b.totals, tt)),
-          ),
-        ),
-      ),
-    )
+    let e = c.rewrite.ensures in
+    record {
+      room = omega (arith, b.room, e.capacity);
+      memory = b.memory;
+      places = b.places;
+      few = b.few;
+      sound = ap all_sound e.items ∙ every_update sound_purchase (of_xid c.args.m.now.xid) (vec_items b.purchases) c.args.p b.sound c.requires;
+      totals = b.totals;
+    }

@@ -11,12 +11,12 @@ use Rattle.gateway.proofs.books.Books.shut.Goals as goal
 abbrev with_batches : Ledger → List Batch → Ledger
 with_batches l rows = record { purchases = l.purchases; answers = l.answers; batches = rows }
 
-pub set-batch-requires : goal.set-batch-requires
-set-batch-requires c =
+pub set_batch-requires : goal.set_batch-requires
+set_batch-requires c =
     let b = c.args.self.now in
     let m = c.args.m.now in
     let sought = of_batch m.course m.batch in
-    let row : row_with sought (vec_items b.batches) ≡ Some c.in-Some.b = ap (row_with sought) (sym c.as-slice.ensures.value) ∙ sym c.in-Some.ensures in
+    let row : row_with sought (vec_items b.batches) ≡ Some c.in-Some.b = ap (row_with sought) (sym c.as_slice.ensures.value) ∙ sym c.in-Some.ensures in
     every_row (within (most_total (vec_len b.answers))) sought (vec_items b.batches) c.in-Some.b b.totals row
 
 pub returns-in-Some : goal.returns-in-Some
@@ -24,16 +24,16 @@ returns-in-Some c =
     let b = c.args.self.now in
     let m = c.args.m.now in
     let sought = of_batch m.course m.batch in
-    let row : row_with sought (vec_items b.batches) ≡ Some c.in-Some.b = ap (row_with sought) (sym c.as-slice.ensures.value) ∙ sym c.in-Some.ensures in
+    let row : row_with sought (vec_items b.batches) ≡ Some c.in-Some.b = ap (row_with sought) (sym c.as_slice.ensures.value) ∙ sym c.in-Some.ensures in
     record {
-      rows = c.set-batch.ensures.rows ∙ ap (with_batches (shown b)) (update_const sought shut (vec_items b.batches) c.in-Some.b row);
-      answers = c.set-batch.ensures.answers;
+      rows = c.set_batch.ensures.rows ∙ ap (with_batches (shown b)) (update_const sought shut (vec_items b.batches) c.in-Some.b row);
+      answers = c.set_batch.ensures.answers;
     }
 
-pub returns-in-default : goal.returns-in-default
-returns-in-default c =
+pub returns-in_default : goal.returns-in_default
+returns-in_default c =
     let b = c.args.self.now in
     let m = c.args.m.now in
     let sought = of_batch m.course m.batch in
-    let row : row_with sought (vec_items b.batches) ≡ None = ap (row_with sought) (sym c.as-slice.ensures.value) ∙ sym c.in-default.ensures in
+    let row : row_with sought (vec_items b.batches) ≡ None = ap (row_with sought) (sym c.as_slice.ensures.value) ∙ sym c.in_default.ensures in
     record { rows = ap (with_batches (shown b)) (sym (update_nothing sought shut (vec_items b.batches) row)); answers = refl }

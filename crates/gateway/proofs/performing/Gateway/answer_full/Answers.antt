@@ -8,9 +8,9 @@ pub returns : goal.returns
 returns g c =
     let buffer = c.args.answer.now in
     let performed = c.perform-performed.result in
-    let answer = c.answer-to.ensures ∙ ap (λ m. answer_to m performed) c.fields-m.ensures.value in
+    let answer = c.answer_to.ensures ∙ ap (λ m. answer_to m performed) c.fields-m.ensures.value in
     record {
-      after = c.write-full.ensures.after ∙ ap (λ a. over_front (full_into (length buffer) a) buffer) answer;
+      after = c.write_full.ensures.after ∙ ap (λ a. over_front (full_into (length buffer) a) buffer) answer;
       rules = c.perform-performed.ensures.rules;
       law = c.perform-performed.ensures.law;
     }

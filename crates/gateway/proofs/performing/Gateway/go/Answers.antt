@@ -6,7 +6,7 @@ use Rattle.gateway.proofs.performing.Gateway.go.Goals as goal
 
 -- a refusal that is remembered finds memory
 pub stop-requires : goal.stop-requires
-stop-requires g c κs kept =
+stop-requires g c kept =
     let books = c.args.self.now.books in
     let m = c.args.m.now in
     let kind : is_kind m.kind ≡ true = ap is_kind c.requires.same ∙ number_is_kind c.args.kind in

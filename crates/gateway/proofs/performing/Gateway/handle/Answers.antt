@@ -12,15 +12,15 @@ use Rattle.gateway.specs.Shown.{shown}
 use Rattle.gateway.proofs.Handlings.{refused_for_room, no_room_law, opened_on, performed, performed_law, refused, refused_law}
 use Rattle.gateway.proofs.performing.Gateway.handle.Goals as goal
 
-pub returns-then-lacks-room : goal.returns-then-lacks-room
-returns-then-lacks-room g c =
+pub returns-then-lacks_room : goal.returns-then-lacks_room
+returns-then-lacks_room g c =
     let h = g.H.Host in
     let b = c.args.message.now in
     let buffer = c.args.answer.now in
     let strip = c.args.strip.now in
     let l = shown c.args.self.now.books in
     let host = c.args.self.now.host in
-    let short : no_room buffer strip ≡ true = sym c.if-lacks-room.ensures in
+    let short : no_room buffer strip ≡ true = sym c.if-lacks_room.ensures in
     record {
       rules = refused_for_room h.held h.assent h.put_fate h.read_fate (no_room buffer strip) b l host buffer strip short;
       law = no_room_law h.held h.assent h.put_fate h.read_fate (no_room buffer strip) b l host buffer strip short;
@@ -34,19 +34,19 @@ returns-in-Ok g c =
     let strip = c.args.strip.now in
     let l = shown c.args.self.now.books in
     let host = c.args.self.now.host in
-    let l' = shown c.answer-full.new.self.books in
-    let host' = c.answer-full.new.self.host in
-    let buffer' = c.answer-full.new.answer in
+    let l' = shown c.answer_full.new.self.books in
+    let host' = c.answer_full.new.self.host in
+    let buffer' = c.answer_full.new.answer in
     let strip' = c.open.new.strip in
     let m = c.in-Ok.opened.fields in
-    let room : no_room buffer strip ≡ false = sym c.if-lacks-room.ensures in
+    let room : no_room buffer strip ≡ false = sym c.if-lacks_room.ensures in
     let long : ltb (length strip) strip_length ≡ false = (or_parts (ltb (length buffer) 24) (ltb (length strip) strip_length) room).1 in
     let is : opened b ≡ Ok m = sym (c.in-Ok.ensures.value ∙ opened_on (length strip) b long) in
     let blank : strip' ≡ blanked strip = c.open.ensures.after ∙ cond-false (ltb (length strip) strip_length) strip (blanked strip) long in
     let are : Bytes b = All-from_get_or (λ x. x < 256) b 0 (λ i within. (c.type_inv.message i).fits) in
     record {
-      rules = performed h.held h.assent h.put_fate h.read_fate (no_room buffer strip) b l host buffer strip room l' host' buffer' strip' blank m is c.kind-kind.result c.kind-kind.ensures c.answer-full.result c.answer-full.ensures.rules c.answer-full.ensures.after;
-      law = performed_law h.held h.assent h.put_fate h.read_fate (no_room buffer strip) b l host buffer strip room l' host' buffer' strip' blank m is are c.answer-full.result c.answer-full.ensures.law;
+      rules = performed h.held h.assent h.put_fate h.read_fate (no_room buffer strip) b l host buffer strip room l' host' buffer' strip' blank m is c.kind-kind.result c.kind-kind.ensures c.answer_full.result c.answer_full.ensures.rules c.answer_full.ensures.after;
+      law = performed_law h.held h.assent h.put_fate h.read_fate (no_room buffer strip) b l host buffer strip room l' host' buffer' strip' blank m is are c.answer_full.result c.answer_full.ensures.law;
     }
 
 pub returns-in-Err : goal.returns-in-Err
@@ -57,10 +57,10 @@ returns-in-Err g c =
     let strip = c.args.strip.now in
     let l = shown c.args.self.now.books in
     let host = c.args.self.now.host in
-    let buffer' = c.write-short.new.buffer in
+    let buffer' = c.write_short.new.buffer in
     let strip' = c.open.new.strip in
     let refusal = c.in-Err.refusal in
-    let room : no_room buffer strip ≡ false = sym c.if-lacks-room.ensures in
+    let room : no_room buffer strip ≡ false = sym c.if-lacks_room.ensures in
     let long : ltb (length strip) strip_length ≡ false = (or_parts (ltb (length buffer) 24) (ltb (length strip) strip_length) room).1 in
     let is : opened b ≡ Err (refusal_number refusal) = sym (c.in-Err.ensures.value ∙ opened_on (length strip) b long) in
     let blank : strip' ≡ blanked strip = c.open.ensures.after ∙ cond-false (ltb (length strip) strip_length) strip (blanked strip) long in
@@ -68,6 +68,6 @@ returns-in-Err g c =
     record {
       rules =
           refused h.held h.assent h.put_fate h.read_fate (no_room buffer strip) b l host buffer strip room l host buffer' strip' blank refl refl refusal is
-          (c.write-short.ensures.after ∙ ap (λ n. over_front (short_into (length buffer) n) buffer) c.number.ensures);
+          (c.write_short.ensures.after ∙ ap (λ n. over_front (short_into (length buffer) n) buffer) c.number.ensures);
       law = refused_law h.held h.assent h.put_fate h.read_fate (no_room buffer strip) b l host buffer strip room l host buffer' strip' blank refl refl refusal is are;
     }
