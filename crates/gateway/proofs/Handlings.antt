@@ -19,7 +19,7 @@ use Rattle.law.specs.Carried.{CarriesLaw}
 use Rattle.law.specs.History.{opened, spelling}
 use Rattle.law.specs.Reached.{full, short}
 use Rattle.law.proofs.Carrying.{carries_short, lawful, own_spelling}
-use Rattle.gateway.specs.Handling.{Handles, HandlesLaw, answer_to, given_by}
+use Rattle.gateway.specs.Handling.{Handles, HandlesLaw, answer_to}
 use Rattle.gateway.specs.Performing.{Performs}
 use Rattle.gateway.specs.declared.handled.Handled.{Handled}
 use Rattle.gateway.specs.declared.handled.Handled.TheVariants.{NoRoom, Short, Full}

@@ -14,7 +14,7 @@ use Rattle.rules.specs.Outcome.{outcome_code}
 use Rattle.rules.specs.Rules.{Call, no_call, Reply, answer_of, books_after, call_of}
 use Rattle.rules.specs.declared.outcome.Performed.{Performed}
 use Rattle.law.specs.Carried.{CarriesLaw, Lawful}
-use Rattle.law.specs.History.{Entry, Given, opened}
+use Rattle.law.specs.History.{Entry, Given}
 use Rattle.law.specs.Reached.{Reached, full, short}
 use Rattle.gateway.specs.Performing.{Called, reply}
 use Rattle.gateway.specs.declared.handled.Handled.{Handled}

@@ -1,7 +1,7 @@
 -- A call that does what the rules say carries the law.
-use Rattle.std.proofs.Common.{◌≡◌, ℕ, ◌<◌, false, List, [], ◌∷◌, length, get_or, is_some, Some, Ok, Err, Result, sym, refl, ap, ◌∙◌, subst}
+use Rattle.std.proofs.Common.{◌≡◌, ℕ, ◌<◌, false, List, [], ◌∷◌, length, get_or, is_some, Ok, Err, sym, refl, ap, ◌∙◌, subst}
 use Rattle.host.specs.Meaning.{put_answer, read_answer}
-use Rattle.host.specs.Parts.{Assents, Holdings, HoldsNothing, PutFates, ReadFates, SameHeld}
+use Rattle.host.specs.Parts.{Assents, Holdings, PutFates, ReadFates, SameHeld}
 use Rattle.host.proofs.Meaning.{put_means, read_means}
 use Rattle.wire.specs.Checks.{first_failing}
 use Rattle.wire.specs.Opening.{message_in, opening_checks}
@@ -13,10 +13,10 @@ use Rattle.wire.specs.declared.message.Fields.{Fields}
 use Rattle.rules.specs.Ledger.{Ledger, no_ledger}
 use Rattle.rules.specs.Rules.{Call, Reply, answer_of, books_after, call_of, held_after_call, no_call, put, read, reply_of}
 use Rattle.rules.specs.declared.outcome.Performed.{Performed}
-use Rattle.law.specs.Carried.{AnsweredAgain, BeginsLaw, Carried, CarriesLaw, Lawful}
-use Rattle.law.specs.History.{Entry, Given, entry, last_given, opened, spelling}
+use Rattle.law.specs.Carried.{AnsweredAgain, BeginsLaw, CarriesLaw, Lawful}
+use Rattle.law.specs.History.{Entry, entry, opened, spelling}
 use Rattle.law.specs.Reached.{HandledByRules, Reached, Replies, full, short}
-use Rattle.law.specs.Stands.{RepeatsOf, LawStands}
+use Rattle.law.specs.Stands.{RepeatsOf}
 use Rattle.law.proofs.Law.{law_over_runs}
 
 -- an opened message by its own bytes

@@ -6,7 +6,7 @@ use Rattle.std.proofs.lemmas.Int.{ints}
 use Rattle.std.proofs.lemmas.Bool.{and_from, and_right, cond_both, cond-false, cond-true, eqb-true, or_cases, or_left, or_right, true≢false}
 use Rattle.host.specs.declared.PutReply.{PutReply}
 use Rattle.host.specs.declared.PutReply.TheVariants.{Done, Refused, Silent}
-use Rattle.rows.specs.First.{first_with, row_with, update_first}
+use Rattle.rows.specs.First.{first_with, row_with}
 use Rattle.wire.specs.declared.message.Fields.{Fields}
 use Rattle.rules.specs.Ledger.{Ledger, no_purchase, of_xid, purchase_row}
 use Rattle.rules.specs.Outcome.{outcome_code}

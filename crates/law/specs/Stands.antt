@@ -1,5 +1,5 @@
 -- What stands of books and holds that are reached: the law over runs.
-use Rattle.std.specs.Prelude.{◌≡◌, ℕ, ◌-◌, ◌≤◌, ◌⊎◌, List, map, ℤ, pos, Some, Ok, Err, Result, ◌≢◌}
+use Rattle.std.specs.Prelude.{◌≡◌, ℕ, ◌-◌, ◌≤◌, ◌⊎◌, List, map, pos, Some, Ok, Err, Result, ◌≢◌}
 use Rattle.std.specs.Option.{unwrap_or}
 use Rattle.rows.specs.First.{row_with}
 use Rattle.host.specs.Parts.{Holdings}

@@ -1,8 +1,8 @@
 -- The words of the history at work: the sample meeting, and an authorisation that was not answered.
-use Rattle.std.specs.Prelude.{◌≡◌, ℕ, Bool, true, false, List, [], ◌∷◌, pos, Some, None, Option}
+use Rattle.std.specs.Prelude.{◌≡◌, ℕ, true, List, [], ◌∷◌, pos, Some, Option}
 use Rattle.std.specs.Option.{option_map}
 use Rattle.rules.specs.Meeting.{P, Q, answer, authorisation, card, fresh, lines, meeting}
-use Rattle.law.specs.History.{BatchName, Entry, PurchaseName, authorised, batch_sum, batches, captured, credited, entry, is_closed, last_given, purchases, succeeds}
+use Rattle.law.specs.History.{Entry, authorised, batch_sum, batches, captured, credited, entry, is_closed, last_given, purchases}
 
 -- the history of these bytes with these answers, after what was handled before
 abbrev told : List Entry → List (List ℕ) → List (ℕ × Option ℕ) → List Entry

@@ -1,5 +1,5 @@
 -- The books by their rows, and what a message finds in them.
-use Rattle.std.specs.Prelude.{ℕ, suc, Bool, false, ◌&&◌, List, [], ◌∷◌, length, replicate, ℤ, pos, Some, None, Option, ◌==◌}
+use Rattle.std.specs.Prelude.{ℕ, Bool, false, ◌&&◌, List, [], length, replicate, pos, None, Option, ◌==◌}
 use Rattle.std.specs.Option.{unwrap_or}
 use Rattle.rows.specs.First.{first_with, row_with}
 use Rattle.wire.specs.declared.message.Fields.{Fields}

@@ -1,5 +1,5 @@
 -- What is known of an opened message, from what it says of itself.
-use Rattle.std.proofs.Common.{◌≡◌, ℕ, ◌<◌, ◌≤◌, true, false, not, ◌&&◌, leb, length, get_or, is_some, Some, None, Ok, Option, sym, refl, ap, ◌∙◌, arith}
+use Rattle.std.proofs.Common.{◌≡◌, ℕ, ◌<◌, ◌≤◌, true, false, leb, length, get_or, is_some, Some, None, Ok, Option, refl, ap, ◌∙◌, arith}
 use Rattle.std.proofs.lemmas.Bool.{and_parts, leb-true, not-false, true≢false}
 use Rattle.fields.specs.Kind.{is_kind, least_amounts, most_amounts}
 use Rattle.fields.proofs.Places.{none_above}

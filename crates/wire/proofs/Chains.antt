@@ -1,5 +1,5 @@
 -- The first check that fails, by what is known of the checks before it.
-use Rattle.std.proofs.Common.{◌≡◌, ℕ, zero, suc, Bool, true, false, cond, List, [], ◌∷◌, ◌++◌, get_or, Some, None, Option, sym, refl, ap, ◌∙◌, arith}
+use Rattle.std.proofs.Common.{◌≡◌, ℕ, zero, suc, Bool, true, false, cond, List, [], ◌∷◌, ◌++◌, get_or, Some, None, refl, ap, arith}
 use Rattle.wire.specs.Checks.{first_failing}
 
 -- checks that all pass leave it to those after them

@@ -1,12 +1,11 @@
 -- The decimal digits of a card number, written from the last to the first.
-use Rattle.std.proofs.Common.{◌≡◌, ℕ, zero, suc, ◌+◌, ◌-◌, ◌*◌, ◌/◌, ◌%◌, ◌^◌, ◌<◌, ◌≤◌, ◌⊎◌, List, [], ◌∷◌, ◌++◌, length, get_or, take, drop, set, replicate, sym, refl, ap, ◌∙◌, ⊎_elim, arith, length-append, length-set}
+use Rattle.std.proofs.Common.{◌≡◌, ℕ, zero, suc, ◌+◌, ◌-◌, ◌*◌, ◌/◌, ◌%◌, ◌^◌, ◌<◌, ◌≤◌, List, [], ◌∷◌, ◌++◌, length, get_or, take, drop, set, replicate, sym, refl, ap, ◌∙◌, arith, length-set}
 use lib.Arith.{digits_div, digits_mod}
 use lib.ListN.{length-replicate}
 use Rattle.std.specs.Int.Digits.{digits_of, number_from_digits as number, AllBelowBase}
 use Rattle.std.proofs.lemmas.Int.Digits.{digits_of_step, length-digits_of_step, length-digits_of-le, all_below_base_digits_of, first_digits_of, number_push, number_after_ge}
 use Rattle.std.proofs.ByRecursion.{All-append, All-weaker, All-get_or, All-take}
 use Rattle.std.proofs.lemmas.List.{append_assoc, drop-set, drop-replicate, nil_from_length, take_at, length-take-le, get_or-take}
-use Rattle.std.proofs.lemmas.Bool.{cases_lt}
 use Rattle.wire.specs.Card.{filled}
 use Rattle.wire.proofs.Numbers.{ends}
 

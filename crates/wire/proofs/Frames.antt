@@ -1,5 +1,5 @@
 -- The checks of the frame, 2 to 5, as far as the code has come.
-use Rattle.std.proofs.Common.{◌≡◌, ℕ, Bool, true, false, cond, not, eqb, List, [], ◌∷◌, length, take, drop, Some, None, Option, sym, refl, ap, ◌∙◌}
+use Rattle.std.proofs.Common.{◌≡◌, ℕ, cond, List, [], length, take, drop, Some, None, sym, ap, ◌∙◌}
 use Rattle.std.proofs.lemmas.Bool.{ne_eqb, eq-eqb, not_from_true, not_from_false}
 use Rattle.wire.specs.Checks.{first_failing}
 use Rattle.fields.specs.Kind.{is_kind, map_of, length_of}

@@ -1,8 +1,8 @@
 -- What opening has found out once every check has passed: the message is trimmed, and writing it is not refused.
-use Rattle.std.proofs.Common.{◌≡◌, ℕ, ◌+◌, ◌*◌, ◌<◌, ◌≤◌, Bool, true, false, cond, not, ◌&&◌, ◌||◌, eqb, ltb, leb, List, [], ◌∷◌, length, get_or, take, drop, replicate, Some, None, Option, sym, refl, ap, ◌∙◌, arith}
+use Rattle.std.proofs.Common.{◌≡◌, ℕ, ◌≤◌, Bool, true, false, cond, not, ◌&&◌, ◌||◌, ltb, leb, List, [], ◌∷◌, length, get_or, take, drop, replicate, None, sym, refl, ap, ◌∙◌, arith}
 use Rattle.std.specs.Int.Digits.{number_from_digits, digits_of}
 use Rattle.std.proofs.lemmas.List.{drop_more}
-use Rattle.std.proofs.lemmas.Bool.{and_parts, not-false, or_parts, ltb-true, ltb-false, eqb-true, cond_both, true≢false}
+use Rattle.std.proofs.lemmas.Bool.{and_parts, not-false, or_parts, ltb-true, ltb-false, eqb-true, true≢false}
 use Rattle.wire.specs.Card.{halves, digits_in, card_shaped, only_fill, well_filled, passes_luhn, well_packed, is_card, card_number}
 use Rattle.wire.specs.Checks.{first_failing}
 use Rattle.fields.specs.Field.{stands, place}

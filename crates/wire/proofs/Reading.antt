@@ -1,7 +1,7 @@
 -- Eight fields handed out one after the other, each leaving the message and the kind as they were.
-use Rattle.std.proofs.Common.{◌≡◌, ℕ, ◌+◌, cond, List, sym, refl, ap, ◌∙◌}
+use Rattle.std.proofs.Common.{◌≡◌, ℕ, List, refl, ap, ◌∙◌}
 use lib.Count.{ones}
-use Rattle.fields.specs.Field.{stands, fields_to}
+use Rattle.fields.specs.Field.{fields_to}
 use Rattle.fields.specs.Kind.{kind_number, map_of}
 use Rattle.fields.specs.declared.kind.Kind.{Kind}
 use Rattle.fields.specs.declared.kind.Kind.TheVariants.{AuthReq, AuthRevReq, CapReq, CapRevReq, CredReq, CredRevReq, BatchOpen, BatchClose, Inquiry}

@@ -1,21 +1,20 @@
 -- The round trip: opening and writing are each other's inverse.
-use Rattle.std.proofs.Common.{◌≡◌, ℕ, zero, suc, ◌+◌, ◌-◌, ◌*◌, ◌/◌, ◌%◌, ◌^◌, ◌<◌, ◌≤◌, Bool, true, false, cond, not, ◌&&◌, ◌||◌, eqb, ltb, leb, List, [], ◌∷◌, ◌++◌, length, get_or, take, drop, replicate, Some, None, Ok, Err, Option, Result, sym, refl, ap, ◌∙◌, mod-eq_of_lt, arith}
+use Rattle.std.proofs.Common.{◌≡◌, ℕ, zero, suc, ◌^◌, ◌<◌, ◌≤◌, Bool, true, false, cond, not, ◌&&◌, ltb, leb, List, [], ◌++◌, length, get_or, take, drop, replicate, Some, None, Ok, Err, Option, Result, sym, refl, ap, ◌∙◌, mod-eq_of_lt, arith}
 use Rattle.std.specs.Int.Digits.{number_from_digits, digits_of, AllBelowBase}
 use Rattle.std.proofs.ByRecursion.{All-take, All-drop}
 use Rattle.std.proofs.lemmas.List.{get_or-take, get_or-drop, take_at}
-use Rattle.std.proofs.lemmas.Bool.{and_parts, not-false, cond-true, cond-false, leb-true, ltb-true, eq-eqb, not-true, false≢true, or_from, le-ltb}
+use Rattle.std.proofs.lemmas.Bool.{and_parts, not-false, cond-true, leb-true, ltb-true, eq-eqb, not-true, false≢true, or_from, le-ltb}
 use Rattle.wire.specs.Bytes.{bytes_of}
 use Rattle.wire.specs.Card.{is_card, well_packed, card_number, packed}
 use Rattle.wire.specs.Checks.{first_failing, unless}
 use Rattle.fields.specs.Field.{width, stands, place, length_under}
 use Rattle.fields.specs.Kind.{is_kind, map_of, length_of, amount_allowed, least_amounts, most_amounts}
-use Rattle.wire.specs.Layout.{pieces, laid, piece_in, parts_in}
+use Rattle.wire.specs.Layout.{pieces, laid, piece_in}
 use Rattle.wire.specs.Opening.{map_in, kind_in, reserved, opening_checks, message_in, opening}
 use Rattle.wire.specs.Buffer.{over_front, length_written}
-use Rattle.wire.specs.RoundTrip.{Bytes, Message, Iff, RoundTrip, OpeningInverts, WritingInverts}
+use Rattle.wire.specs.RoundTrip.{Message, Iff, RoundTrip, OpeningInverts, WritingInverts}
 use Rattle.wire.specs.Writing.{trimmed, writing_checks, parts_of, bytes_for, writing, writing_into}
 use Rattle.wire.specs.declared.message.Fields.{Fields}
-use Rattle.wire.specs.declared.parts.Parts.{Parts}
 use Rattle.wire.proofs.Chains.{none_fails, passes, last_passes}
 use Rattle.wire.proofs.Inverse.{laid_read, found_again, map_again}
 use Rattle.wire.proofs.Laying.{Sized, length_laid}

@@ -1,13 +1,12 @@
 -- Writing as the code does it: the checks 3, 6 and 7 passed one after the other, and then the laying out.
-use Rattle.std.proofs.Common.{◌≡◌, ℕ, Bool, true, false, cond, not, ◌&&◌, ltb, List, [], ◌∷◌, drop, replicate, Some, None, Ok, Err, Option, Result, sym, refl, ap, ◌∙◌}
+use Rattle.std.proofs.Common.{◌≡◌, ℕ, Bool, true, false, cond, not, ◌&&◌, ltb, List, [], ◌∷◌, drop, replicate, Some, None, Err, Option, sym, ap, ◌∙◌}
 use Rattle.std.specs.Int.Digits.{digits_of}
 use Rattle.wire.specs.Card.{is_card, packed}
 use Rattle.wire.specs.Checks.{first_failing, unless}
 use Rattle.fields.specs.Field.{stands}
-use Rattle.fields.specs.Kind.{kind_number, is_kind, map_of, length_of, amount_allowed}
-use Rattle.wire.specs.Layout.{laid, laying_into}
+use Rattle.fields.specs.Kind.{is_kind, map_of, length_of, amount_allowed}
+use Rattle.wire.specs.Layout.{laying_into}
 use Rattle.wire.specs.Writing.{writing_checks, parts_of, bytes_for, writing_into}
-use Rattle.fields.specs.declared.kind.Kind.{Kind}
 use Rattle.wire.specs.declared.message.Fields.{Fields}
 use Rattle.wire.specs.declared.parts.Parts.{Parts}
 use Rattle.wire.proofs.Chains.{after_passed, before_failed, passes}

@@ -4,7 +4,6 @@ use Rattle.fields.specs.Field.{length_under}
 use Rattle.fields.specs.Kind.{map_with}
 use Rattle.wire.specs.Layout.{laying_into}
 use Rattle.wire.specs.declared.answer.Answer.{Answer}
-use Rattle.fields.specs.declared.field.Field.{Field}
 use Rattle.fields.specs.declared.field.Field.TheVariants.{Kind, Request, Course, Amount, Code}
 use Rattle.wire.specs.declared.parts.Parts.{Parts}
 

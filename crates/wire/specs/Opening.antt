@@ -7,7 +7,6 @@ use Rattle.fields.specs.Field.{bit_of, stands}
 use Rattle.wire.specs.Strip.{strip_length}
 use Rattle.fields.specs.declared.field.Field.{Field}
 use Rattle.fields.specs.declared.field.Field.TheVariants.{Card, Amount}
-use Rattle.fields.specs.declared.field.Field.TheVariants as Field
 use Rattle.fields.specs.Kind.{kind_number, is_kind, map_of, length_of, amount_allowed}
 use Rattle.wire.specs.Layout.{piece_in, parts_in}
 use Rattle.fields.specs.declared.kind.Kind.{Kind}

@@ -1,5 +1,5 @@
 -- Opening and writing are each other's inverse, for all bytes and all messages.
-use Rattle.std.specs.Prelude.{◌≡◌, ℕ, ◌^◌, ◌<◌, ◌≤◌, List, length, take, Ok, Err, Result}
+use Rattle.std.specs.Prelude.{◌≡◌, ℕ, ◌^◌, ◌<◌, ◌≤◌, List, length, take, Ok, Result}
 use Rattle.std.specs.Int.Digits.{AllBelowBase}
 use Rattle.fields.specs.Kind.{length_of}
 use Rattle.wire.specs.Opening.{opening}

@@ -1,5 +1,5 @@
 -- Writing: the bytes of a message, or the number of the first check that fails.
-use Rattle.std.specs.Prelude.{ℕ, Bool, cond, not, ◌&&◌, List, [], ◌∷◌, ◌++◌, length, replicate, Ok, Err, Result, nat_lt}
+use Rattle.std.specs.Prelude.{ℕ, Bool, cond, not, ◌&&◌, List, [], ◌∷◌, ◌++◌, replicate, Result, nat_lt}
 use Rattle.std.specs.Int.Digits.{digits_of}
 use Rattle.wire.specs.Card.{is_card, packed}
 use Rattle.wire.specs.Checks.{first_failing, unless}

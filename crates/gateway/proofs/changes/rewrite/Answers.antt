@@ -1,5 +1,5 @@
-use Rattle.std.proofs.Common.{◌≡◌, Bool, Some, None, vec_items, sym, refl, subst}
-use Rattle.rows.specs.First.{Found, FirstOrNone}
+use Rattle.std.proofs.Common.{Bool, Some, None, vec_items, sym, refl}
+use Rattle.rows.specs.First.{FirstOrNone}
 use Rattle.rows.proofs.First.{update_found, update_none}
 use Rattle.gateway.proofs.changes.rewrite.Goals as goal
 

@@ -1,4 +1,4 @@
-use Rattle.std.proofs.Common.{◌≡◌, length, drop}
+use Rattle.std.proofs.Common.{◌≡◌, drop}
 use Rattle.wire.specs.Bytes.{same_bytes}
 use Rattle.rules.proofs.same.same_bytes.Given as goal
 

@@ -1,6 +1,5 @@
-use Rattle.std.proofs.Common.{◌≡◌, ◌-◌, ◌<◌, length, take, drop, sym, ap, ◌∙◌, arith}
+use Rattle.std.proofs.Common.{arith}
 use Rattle.std.proofs.lemmas.Bool.Decides.{nat_tests}
-use Rattle.wire.specs.Card.{digits_in, only_fill, card_shaped}
 use Rattle.wire.proofs.Halves.{digits_first, fill_part}
 use Rattle.wire.proofs.card.digits_of.Goals as goal
 

@@ -1,4 +1,3 @@
-use Rattle.std.proofs.Common.{◌≡◌}
 use Rattle.wire.proofs.Decimals.{Filling}
 use Rattle.wire.proofs.card.fill.Given as goal
 

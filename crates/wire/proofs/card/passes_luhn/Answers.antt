@@ -1,4 +1,4 @@
-use Rattle.std.proofs.Common.{◌≡◌, ◌-◌, ◌%◌, eqb, get_or, ap, ◌∙◌, arith}
+use Rattle.std.proofs.Common.{◌≡◌, ◌-◌, ◌%◌, eqb, get_or, ap, arith}
 use Rattle.std.proofs.lemmas.List.{at_drop_all}
 use Rattle.wire.specs.Card.{luhn_sum}
 use Rattle.wire.proofs.Luhn.{weight_small, luhn_more}

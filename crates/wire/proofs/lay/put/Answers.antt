@@ -1,5 +1,5 @@
-use Rattle.std.proofs.Common.{◌≡◌, true, sym, ◌∙◌, arith}
-use Rattle.fields.specs.Field.{bit_of, stands}
+use Rattle.std.proofs.Common.{sym, ◌∙◌, arith}
+use Rattle.fields.specs.Field.{bit_of}
 use Rattle.wire.proofs.Laying.{put_is}
 use Rattle.wire.proofs.lay.put.Goals as goal
 

@@ -5,7 +5,6 @@ use Rattle.rules.specs.Ledger.{batch_of, batch_row, no_batch, of_batch}
 use Rattle.rules.specs.Rules.{answered, moved, on_batch, shut, uncalled, noted}
 use Rattle.gateway.specs.Shown.{shown}
 use Rattle.rules.specs.declared.batch.Batch.{Batch}
-use Rattle.rules.specs.declared.facts.Facts.{Facts}
 use Rattle.rules.specs.declared.outcome.Outcome.TheVariants.{Success}
 use Rattle.rules.specs.declared.outcome.Performed.{Performed}
 use Rattle.rules.proofs.Answering.{answered_at, moved_at, remembered_at}

@@ -1,5 +1,5 @@
-use Rattle.std.proofs.Common.{◌≡◌, sym, ap, ◌∙◌}
-use Rattle.rules.specs.Rules.{answered, moved, on_purchase, on_put, put_answered, remembered, seated, settled, noted}
+use Rattle.std.proofs.Common.{sym, ap, ◌∙◌}
+use Rattle.rules.specs.Rules.{answered, moved, on_put, noted}
 use Rattle.gateway.specs.Shown.{shown}
 use Rattle.rules.proofs.Answering.{answered_at, moved_at, put_kept, remembered_at}
 use Rattle.gateway.proofs.books.Books.lower.Goals as goal

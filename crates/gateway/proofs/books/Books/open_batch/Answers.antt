@@ -1,8 +1,7 @@
 use Rattle.std.proofs.Common.{◌≡◌, [], ◌∷◌, ◌++◌, sym, refl, ap, ◌∙◌}
 use Rattle.rules.specs.Ledger.{Ledger}
-use Rattle.rules.specs.Rules.{answered, moved, new_batch, uncalled, noted}
+use Rattle.rules.specs.Rules.{answered, moved, uncalled, noted}
 use Rattle.gateway.specs.Shown.{shown}
-use Rattle.rules.specs.Sound.{most_total, within}
 use Rattle.rules.specs.declared.batch.Batch.{Batch}
 use Rattle.rules.specs.declared.outcome.Outcome.TheVariants.{Success}
 use Rattle.rules.specs.declared.outcome.Performed.{Performed}

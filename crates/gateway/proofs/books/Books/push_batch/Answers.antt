@@ -1,4 +1,4 @@
-use Rattle.std.proofs.Common.{◌≡◌, vec_items, vec_len, ap, ◌∙◌, arith}
+use Rattle.std.proofs.Common.{vec_items, vec_len, ap, ◌∙◌, arith}
 use Rattle.rules.specs.Sound.{all_within, most_total, within}
 use Rattle.rules.proofs.Every.{every_push}
 use Rattle.gateway.proofs.books.Books.push_batch.Goals as goal

@@ -9,8 +9,8 @@ pub overflow_add-result : goal.overflow_add-result
 overflow_add-result c =
     let purchases = c.args.self.now.purchases in
     elim c.match-purchase_at.branch [
-      in-Some w ↦
-        let within = (found_of_first (of_xid c.args.m.now.xid) (vec_items purchases) w.in-Some.place (sym c.purchase_at.ensures ∙ w.in-Some.is)).within in
-        search rules
-    | in-None w ↦ search rules
+      | in-Some w ↦
+          let within = (found_of_first (of_xid c.args.m.now.xid) (vec_items purchases) w.in-Some.place (sym c.purchase_at.ensures ∙ w.in-Some.is)).within in
+          search rules
+      | in-None w ↦ search rules
     ]

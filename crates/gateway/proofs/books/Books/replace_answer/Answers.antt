@@ -1,5 +1,5 @@
-use Rattle.std.proofs.Common.{◌≡◌, List, Some, None, vec_items, sym, refl, ap, ◌∙◌}
-use Rattle.rows.specs.First.{row_with, update_first}
+use Rattle.std.proofs.Common.{◌≡◌, List, Some, None, vec_items, sym, ap, ◌∙◌}
+use Rattle.rows.specs.First.{row_with}
 use Rattle.rules.specs.Ledger.{Ledger, of_request}
 use Rattle.gateway.specs.Shown.{shown}
 use Rattle.rules.specs.declared.outcome.Performed.{Performed}

@@ -1,4 +1,4 @@
-use Rattle.std.proofs.Common.{◌≡◌, is_some, vec_items, sym, refl, ap, ◌∙◌}
+use Rattle.std.proofs.Common.{◌≡◌, is_some, vec_items, sym, ap, ◌∙◌}
 use Rattle.rows.specs.First.{row_with}
 use Rattle.rules.specs.Ledger.{of_xid}
 use Rattle.rules.specs.Sound.{sound_purchase}

@@ -1,4 +1,4 @@
-use Rattle.std.proofs.Common.{◌≡◌, vec_items, ap, ◌∙◌, arith}
+use Rattle.std.proofs.Common.{vec_items, ap, ◌∙◌, arith}
 use Rattle.rules.specs.Ledger.{of_xid}
 use Rattle.rules.specs.Sound.{all_sound, sound_purchase}
 use Rattle.rules.proofs.Every.{every_update}

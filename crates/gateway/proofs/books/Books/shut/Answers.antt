@@ -1,5 +1,5 @@
 use Rattle.std.proofs.Common.{◌≡◌, List, Some, None, vec_items, vec_len, sym, refl, ap, ◌∙◌}
-use Rattle.rows.specs.First.{row_with, update_first}
+use Rattle.rows.specs.First.{row_with}
 use Rattle.rules.specs.Ledger.{Ledger, of_batch}
 use Rattle.rules.specs.Rules.{shut}
 use Rattle.gateway.specs.Shown.{shown}

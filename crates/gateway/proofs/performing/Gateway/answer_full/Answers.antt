@@ -1,4 +1,4 @@
-use Rattle.std.proofs.Common.{◌≡◌, length, ap, ◌∙◌}
+use Rattle.std.proofs.Common.{length, ap, ◌∙◌}
 use Rattle.wire.specs.Answer.{full_into}
 use Rattle.wire.specs.Buffer.{over_front}
 use Rattle.gateway.specs.Handling.{answer_to}

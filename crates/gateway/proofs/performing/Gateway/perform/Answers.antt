@@ -1,8 +1,8 @@
-use Rattle.std.proofs.Common.{◌≡◌, sym, ap, ◌∙◌, subst}
+use Rattle.std.proofs.Common.{subst}
 use Rattle.law.specs.History.{spelling}
 use Rattle.law.proofs.Carrying.{carries, replies_of, spelling_bytes, spelling_opens}
 use Rattle.rules.specs.Rules.{call_of, way}
-use Rattle.gateway.specs.Performing.{Goes, Performs, reply}
+use Rattle.gateway.specs.Performing.{Goes, reply}
 use Rattle.gateway.specs.Shown.{shown}
 use Rattle.gateway.proofs.performing.Gateway.perform.Goals as goal
 

@@ -1,8 +1,8 @@
-use Rattle.std.proofs.Common.{◌≡◌, cond, eqb, [], ◌∷◌, sym, refl, ap, ◌∙◌}
+use Rattle.std.proofs.Common.{◌≡◌, cond, eqb, [], ◌∷◌, sym, ap, ◌∙◌}
 use Rattle.fields.specs.Kind.{kind_number}
 use Rattle.rules.specs.Checks.{among}
 use Rattle.rules.specs.Rules.{answered, card_of, moved, no_call, on_put, put_of, read, reference_of, remembered, through_call}
-use Rattle.gateway.specs.Performing.{Called, reply}
+use Rattle.gateway.specs.Performing.{reply}
 use Rattle.gateway.specs.Shown.{shown}
 use Rattle.gateway.proofs.performing.Gateway.through.Goals as goal
 

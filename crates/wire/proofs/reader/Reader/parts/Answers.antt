@@ -1,7 +1,6 @@
 use Rattle.std.proofs.Common.{◌≡◌, ℕ, ◌+◌, cond, List, ap, ◌∙◌, arith}
 use Rattle.std.specs.Int.Digits.{number_from_digits}
 use Rattle.fields.specs.Field.{stands}
-use Rattle.fields.specs.Kind.{kind_number, map_of}
 use Rattle.wire.specs.Layout.{piece_in}
 use Rattle.wire.proofs.Reading.{as_first, ones_of_kind}
 use Rattle.wire.proofs.reader.Reader.parts.Goals as goal
