@@ -14,3 +14,5 @@ mod stops;
 
 pub use handled::Handled;
 pub use performing::Gateway;
+// The rules that it goes by, under its own name too.
+pub use rules::{batch, examples, outcome, purchase, remembered};
