@@ -1,6 +1,6 @@
 // Reads the fields of a message by place.
 ghost use Rattle.std.specs.Prelude.{◌≡◌, ◌+◌, ◌^◌, ◌<◌, ◌≤◌, length, replicate, if◌then◌else◌, Some, None, MatchResult, count_ones};
-ghost use Rattle.std.specs.Option.{option_map as mapped};
+ghost use Rattle.std.specs.Option.{option_map};
 ghost use Rattle.std.specs.Int.Digits.{number_from_digits};
 ghost use Rattle.fields.specs.Field.{bit_of, width, stands};
 ghost use Rattle.wire.specs.Layout.{piece_in, parts_in};
@@ -62,7 +62,7 @@ impl<'a> Reader<'a> {
     // The bytes of a field, or none where the kind lacks it.
     fn bytes(&mut self, field: Field) -> Option<&'a [u8]>
         requires { self.old.read < 16 }
-        ensures value { mapped (λ x. x.now) result ≡ (if stands (map_of (kind_number self.old.kind)) (bit_of field) then Some (piece_in (map_of (kind_number self.old.kind)) self.old.message.now (bit_of field)) else None) }
+        ensures value { option_map (λ x. x.now) result ≡ (if stands (map_of (kind_number self.old.kind)) (bit_of field) then Some (piece_in (map_of (kind_number self.old.kind)) self.old.message.now (bit_of field)) else None) }
         ensures counted { self.new.read ≡ self.old.read + (if stands (map_of (kind_number self.old.kind)) (bit_of field) then 1 else 0) }
         ensures same { (self.new.message.now ≡ self.old.message.now) × (self.new.kind ≡ self.old.kind) }
     {
