@@ -36,6 +36,10 @@ SPECIAL = {
     "used-by": "used_by_fields",
     "noneAbove": "none_is_above",
     "same-pair": "same_pair_itself",
+    # and names that begin with a capital
+    "P-amounts": "p_amounts",
+    "Q-declined": "q_declined",
+    "So-far": "SoFar",
 }
 
 # names in today's spelling already, that would meet a name that turns: where, old, new

@@ -26,8 +26,8 @@ last_code h = option_map (λ g. g.code) (last_given h (authorisation 1 P 3000))
 
 pub record WorkedHistories : Type 0 where
   pub two_purchases : purchases after_meeting ≡ (record { xid = P; card = card }) ∷ (record { xid = Q; card = card }) ∷ []
-  pub P-amounts : (authorised after_meeting P ≡ 3000) × (captured after_meeting P ≡ 3000) × (credited after_meeting P ≡ pos 1200)
-  pub Q-declined : authorised after_meeting Q ≡ 0
+  pub p_amounts : (authorised after_meeting P ≡ 3000) × (captured after_meeting P ≡ 3000) × (credited after_meeting P ≡ pos 1200)
+  pub q_declined : authorised after_meeting Q ≡ 0
   pub one_batch : (batches after_meeting ≡ (record { course = 9; number = 7 }) ∷ []) × (batch_sum after_meeting 9 7 ≡ pos 1800) × (is_closed after_meeting 9 7 ≡ true)
   -- while the last answer is 25 nothing is authorised; the repeat succeeds
   pub in_doubt : (last_code unanswered ≡ Some 25) × (authorised unanswered P ≡ 0)

@@ -14,15 +14,15 @@ pub digit_small : (base : ℕ) (digits : List ℕ) (i : ℕ) → (256 ≤ base) 
 digit_small base digits i under byte within = ⊎_elim (λ wide. omega arith) (λ u. All-get_or (λ d. d < base) digits i 0 within u) under
 
 -- the number of the first i digits, which cannot outgrow base ^ i
-abbrev pub So-far : ℕ → List ℕ → ℕ → ℕ → Type 0
-So-far base digits i value = (value ≡ number_from_digits base (take i digits)) × (value < base ^ i)
+abbrev pub SoFar : ℕ → List ℕ → ℕ → ℕ → Type 0
+SoFar base digits i value = (value ≡ number_from_digits base (take i digits)) × (value < base ^ i)
 
-module _ (base : ℕ) (digits : List ℕ) (i value digit : ℕ) (read : digit ≡ get_or digits i 0) (small : get_or digits i 0 < base) (within : i < length digits) (before : So-far base digits i value) where
+module _ (base : ℕ) (digits : List ℕ) (i value digit : ℕ) (read : digit ≡ get_or digits i 0) (small : get_or digits i 0 < base) (within : i < length digits) (before : SoFar base digits i value) where
   below : value * base + digit < base ^ (i + 1)
   below = rw (add-one, pow-suc) (digits_lt before.1 (rw read small))
 
   -- one digit more
-  pub so_far_more : So-far base digits (i + 1) (value * base + digit)
+  pub so_far_more : SoFar base digits (i + 1) (value * base + digit)
   so_far_more =
       (ap (λ v. v * base + digit) before.0 ∙ ap (λ d. number_from_digits base (take i digits) * base + d) read ∙ sym (number_more base digits i within), below)
 

@@ -7,8 +7,8 @@ worked : WorkedHistories
 unfolding opened
 worked = record {
   two_purchases = refl;
-  P-amounts = (refl, refl, refl);
-  Q-declined = refl;
+  p_amounts = (refl, refl, refl);
+  q_declined = refl;
   one_batch = (refl, refl, refl);
   in_doubt = (refl, refl);
   settled = (refl, refl);
