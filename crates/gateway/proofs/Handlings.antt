@@ -5,7 +5,7 @@ use Rattle.fields.specs.Kind.{kind_number}
 use Rattle.fields.specs.Refusal.{refusal_number}
 use Rattle.fields.specs.declared.kind.Kind.{Kind}
 use Rattle.fields.specs.declared.refusal.Refusal.{Refusal}
-use Rattle.host.specs.Parts.{Assents, Holdings, PutFates, ReadFates}
+use Rattle.host.specs.declared.Host.{Ghosts as HostMeaning}
 use Rattle.wire.specs.Answer.{full_into, short_into}
 use Rattle.wire.specs.Buffer.{over_front}
 use Rattle.wire.specs.Checks.{first_failing, unless}
@@ -29,9 +29,9 @@ pub opened_on : (strip : ℕ) (bytes : List ℕ) → ltb strip strip_length ≡ 
 unfolding opened
 opened_on strip bytes enough = ap (λ t. unless (cond t (Some 1) (first_failing (opening_checks bytes))) (message_in bytes)) enough
 
-module _ {H : Type 0} (held : H → Holdings) (assent : H → Assents) (put_fate : H → PutFates) (read_fate : H → ReadFates) (none : Bool) (bytes : List ℕ) (l : Ledger) (host : H) (buffer strip : List ℕ) where
+module _ {H : Type 0} (h : HostMeaning H) (none : Bool) (bytes : List ℕ) (l : Ledger) (host : H) (buffer strip : List ℕ) where
   abbrev Rules : Bool → Result Fields ℕ → Handled → Ledger → H → List ℕ → List ℕ → Type 0
-  Rules t o = Handles held assent put_fate read_fate t o l host buffer strip
+  Rules t o = Handles h t o l host buffer strip
 
   -- nothing was done
   pub refused_for_room : none ≡ true → Rules none (opened bytes) NoRoom l host buffer strip
@@ -39,12 +39,12 @@ module _ {H : Type 0} (held : H → Holdings) (assent : H → Assents) (put_fate
       subst (λ t. Rules t (opened bytes) NoRoom l host buffer strip) (sym is)
       (record { answer = refl; refused_first = λ first. refl; kind = refl; written = refl; blank = refl; books = refl; called = record { holds = λ card reference. refl; same_host = λ uncalled. refl } })
 
-  pub no_room_law : none ≡ true → HandlesLaw none held bytes (short 1) l host l host
-  no_room_law is = subst (λ t. HandlesLaw t held bytes (short 1) l host l host) (sym is) (λ h reached. lawful held h l host reached)
+  pub no_room_law : none ≡ true → HandlesLaw none h.held bytes (short 1) l host l host
+  no_room_law is = subst (λ t. HandlesLaw t h.held bytes (short 1) l host l host) (sym is) (λ before reached. lawful h.held before l host reached)
 
   module _ (room : none ≡ false) (l' : Ledger) (host' : H) (buffer' strip' : List ℕ) (blank : strip' ≡ blanked strip) where
     -- a message was performed
-    pub performed : (m : Fields) → opened bytes ≡ Ok m → (k : Kind) → kind_number k ≡ m.kind → (a : Performed) → Performs held assent put_fate read_fate m l host a l' host' → buffer' ≡ over_front (full_into (length buffer) (answer_to m a)) buffer → Rules none (opened bytes) (Full k a) l' host' buffer' strip'
+    pub performed : (m : Fields) → opened bytes ≡ Ok m → (k : Kind) → kind_number k ≡ m.kind → (a : Performed) → Performs h m l host a l' host' → buffer' ≡ over_front (full_into (length buffer) (answer_to m a)) buffer → Rules none (opened bytes) (Full k a) l' host' buffer' strip'
     performed m is k kind a p written =
         subst (λ t. Rules t (opened bytes) (Full k a) l' host' buffer' strip') (sym room)
         (subst (λ o. Rules false o (Full k a) l' host' buffer' strip') (sym is)
@@ -58,9 +58,9 @@ module _ {H : Type 0} (held : H → Holdings) (assent : H → Assents) (put_fate
           called = p.called;
         }))
 
-    pub performed_law : (m : Fields) → opened bytes ≡ Ok m → Bytes bytes → (a : Performed) → CarriesLaw held (spelling m) (full a) l host l' host' → HandlesLaw none held bytes (full a) l host l' host'
+    pub performed_law : (m : Fields) → opened bytes ≡ Ok m → Bytes bytes → (a : Performed) → CarriesLaw h.held (spelling m) (full a) l host l' host' → HandlesLaw none h.held bytes (full a) l host l' host'
     performed_law m is are a law =
-        subst (λ t. HandlesLaw t held bytes (full a) l host l' host') (sym room) (subst (λ b. CarriesLaw held b (full a) l host l' host') (own_spelling bytes m are is) law)
+        subst (λ t. HandlesLaw t h.held bytes (full a) l host l' host') (sym room) (subst (λ b. CarriesLaw h.held b (full a) l host l' host') (own_spelling bytes m are is) law)
 
     -- the bytes hold no message
     module _ (books : l' ≡ l) (same : host' ≡ host) (refusal : Refusal) (is : opened bytes ≡ Err (refusal_number refusal)) where
@@ -68,8 +68,8 @@ module _ {H : Type 0} (held : H → Holdings) (assent : H → Assents) (put_fate
       refused written =
           subst (λ t. Rules t (opened bytes) (Short refusal) l' host' buffer' strip') (sym room)
           (subst (λ o. Rules false o (Short refusal) l' host' buffer' strip') (sym is)
-          (record { answer = refl; refused_first = λ first. absurd (true≢false (sym first)); kind = refl; written = written; blank = blank; books = books; called = record { holds = λ card reference. ap (λ x. held x card reference) same; same_host = λ uncalled. same } }))
+          (record { answer = refl; refused_first = λ first. absurd (true≢false (sym first)); kind = refl; written = written; blank = blank; books = books; called = record { holds = λ card reference. ap (λ x. h.held x card reference) same; same_host = λ uncalled. same } }))
 
-      pub refused_law : Bytes bytes → HandlesLaw none held bytes (short (refusal_number refusal)) l host l' host'
+      pub refused_law : Bytes bytes → HandlesLaw none h.held bytes (short (refusal_number refusal)) l host l' host'
       refused_law are =
-          subst (λ t. HandlesLaw t held bytes (short (refusal_number refusal)) l host l' host') (sym room) (carries_short held bytes (refusal_number refusal) are is l l' host host' books same)
+          subst (λ t. HandlesLaw t h.held bytes (short (refusal_number refusal)) l host l' host') (sym room) (carries_short h.held bytes (refusal_number refusal) are is l l' host host' books same)

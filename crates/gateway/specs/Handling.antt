@@ -3,7 +3,8 @@ use Rattle.std.specs.Prelude.{◌≡◌, ℕ, Bool, true, false, ◌||◌, List,
 use Rattle.fields.specs.Field.{length_under}
 use Rattle.fields.specs.Kind.{kind_number}
 use Rattle.fields.specs.Refusal.{refusal_number}
-use Rattle.host.specs.Parts.{Assents, Holdings, PutFates, ReadFates}
+use Rattle.host.specs.Parts.{Holdings}
+use Rattle.host.specs.declared.Host.{Ghosts as HostMeaning}
 use Rattle.wire.specs.Answer.{full_into, full_map, short_into}
 use Rattle.wire.specs.Buffer.{over_front}
 use Rattle.wire.specs.Strip.{blanked, strip_length}
@@ -71,16 +72,16 @@ abbrev pub handled_strip : Bool → List ℕ → List ℕ
 handled_strip true strip = strip
 handled_strip false strip = blanked strip
 
--- over a host, by the four parts of its meaning
-module _ {H : Type 0} (held : H → Holdings) (assent : H → Assents) (put_fate : H → PutFates) (read_fate : H → ReadFates) where
+-- over a host, by its meaning
+module _ {H : Type 0} (h : HostMeaning H) where
   pub record Handles (none : Bool) (o : Result Fields ℕ) (l : Ledger) (host : H) (buffer strip : List ℕ) (r : Handled) (l' : Ledger) (host' : H) (buffer' strip' : List ℕ) : Type 0 where
-    pub answer : given_by r ≡ handled_given none o l (reply held assent put_fate read_fate host (handled_call none o l))
+    pub answer : given_by r ≡ handled_given none o l (reply h host (handled_call none o l))
     pub refused_first : none ≡ true → r ≡ NoRoom
     pub kind : kind_by r ≡ handled_kind none o
-    pub written : buffer' ≡ over_front (handled_into (length buffer) none o l (reply held assent put_fate read_fate host (handled_call none o l))) buffer
+    pub written : buffer' ≡ over_front (handled_into (length buffer) none o l (reply h host (handled_call none o l))) buffer
     pub blank : strip' ≡ handled_strip none strip
-    pub books : l' ≡ handled_books none o l (reply held assent put_fate read_fate host (handled_call none o l))
-    pub called : Called held assent put_fate read_fate (handled_call none o l) host host'
+    pub books : l' ≡ handled_books none o l (reply h host (handled_call none o l))
+    pub called : Called h (handled_call none o l) host host'
 
 -- bytes that were handled carry the law; a call that was refused for want of room does not count, and leaves the law standing
 abbrev pub HandlesLaw : {H : Type 0} → Bool → (H → Holdings) → List ℕ → Given → Ledger → H → Ledger → H → Type 0

@@ -1,21 +1,22 @@
 -- What performing a message answers, and what it leaves in the books and in the host: by the rules, and the host's meaning.
 use Rattle.std.specs.Prelude.{◌≡◌}
-use Rattle.host.specs.Parts.{Assents, Holdings, PutFates, ReadFates, SameHeld}
+use Rattle.host.specs.Parts.{SameHeld}
+use Rattle.host.specs.declared.Host.{Ghosts as HostMeaning}
 use Rattle.wire.specs.declared.message.Fields.{Fields}
 use Rattle.rules.specs.Ledger.{Ledger}
 use Rattle.rules.specs.Rules.{Call, no_call, Reply, answer_by, answer_of, books_after, books_by, call_by, call_of, held_after_call, put_of, reply_of, through_call}
 use Rattle.rules.specs.declared.outcome.Performed.{Performed}
 use Rattle.rules.specs.declared.way.Way.{Way}
 
--- over a host, by the four parts of its meaning
-module _ {H : Type 0} (held : H → Holdings) (assent : H → Assents) (put_fate : H → PutFates) (read_fate : H → ReadFates) where
+-- over a host, by its meaning
+module _ {H : Type 0} (h : HostMeaning H) where
   -- what this host replies to a call
   abbrev pub reply : H → Call → Reply
-  reply host call = reply_of (put_fate host) (read_fate host) (held host) (assent host) call
+  reply host call = reply_of (h.put_fate host) (h.read_fate host) (h.held host) (h.assent host) call
 
   -- the host after a call: every amount held is the meaning's, and where no call was made it is the same value
   pub record Called (call : Call) (host host' : H) : Type 0 where
-    pub holds : SameHeld (held host') (held_after_call (put_fate host) (held host) (assent host) call)
+    pub holds : SameHeld (h.held host') (held_after_call (h.put_fate host) (h.held host) (h.assent host) call)
     pub same_host : call ≡ no_call → host' ≡ host
 
   -- performing: the answer, the books after it and the host after it

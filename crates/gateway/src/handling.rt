@@ -41,7 +41,7 @@ impl<H: Host> Gateway<H> {
     // A message is performed, and its full answer written.
     fn answer_full(&mut self, message: Opened, answer: &mut [u8]) -> Performed
         ensures after { answer.new ≡ over_front (full_into (length answer.old) (answer_to message.fields result)) answer.old }
-        ensures rules { Performs H.Host.held H.Host.assent H.Host.put_fate H.Host.read_fate message.fields (shown self.old.books) self.old.host result (shown self.new.books) self.new.host }
+        ensures rules { Performs H.Host message.fields (shown self.old.books) self.old.host result (shown self.new.books) self.new.host }
         ensures law { CarriesLaw H.Host.held (spelling message.fields) (full result) (shown self.old.books) self.old.host (shown self.new.books) self.new.host }
     {
         let m = message.fields();
@@ -53,7 +53,7 @@ impl<H: Host> Gateway<H> {
     /// Handles the bytes of a message: opens them on the strip, performs the message, and writes its answer into the front of
     /// the answer buffer. A buffer under 24 bytes or a strip under 19 is refused first, and everything stays as it was.
     pub fn handle(&mut self, message: &[u8], strip: &mut [u8], answer: &mut [u8]) -> Handled
-        ensures rules { Handles H.Host.held H.Host.assent H.Host.put_fate H.Host.read_fate (no_room answer.old strip.old) (opened message.now) (shown self.old.books) self.old.host answer.old strip.old result (shown self.new.books) self.new.host answer.new strip.new }
+        ensures rules { Handles H.Host (no_room answer.old strip.old) (opened message.now) (shown self.old.books) self.old.host answer.old strip.old result (shown self.new.books) self.new.host answer.new strip.new }
         ensures law { HandlesLaw (no_room answer.old strip.old) H.Host.held message.now (given_by result) (shown self.old.books) self.old.host (shown self.new.books) self.new.host }
     {
         if lacks_room(answer, strip) {

@@ -45,8 +45,8 @@ impl<H: Host> Gateway<H> {
 
     // The put of a message's amount, under its purchase's card and reference.
     fn put(&mut self, m: &Fields) -> PutReply
-        ensures answer { on_put result ≡ reply H.Host.held H.Host.assent H.Host.put_fate H.Host.read_fate self.old.host (put_of (shown self.old.books) m.now) }
-        ensures called { Called H.Host.held H.Host.assent H.Host.put_fate H.Host.read_fate (put_of (shown self.old.books) m.now) self.old.host self.new.host }
+        ensures answer { on_put result ≡ reply H.Host self.old.host (put_of (shown self.old.books) m.now) }
+        ensures called { Called H.Host (put_of (shown self.old.books) m.now) self.old.host self.new.host }
         ensures books { self.new.books ≡ self.old.books }
     {
         let card = self.books.card_of(m);
@@ -56,8 +56,8 @@ impl<H: Host> Gateway<H> {
 
     // The read of what is held under the purchase's card and reference.
     fn read(&mut self, m: &Fields) -> ReadReply
-        ensures answer { on_read result ≡ reply H.Host.held H.Host.assent H.Host.put_fate H.Host.read_fate self.old.host (read (card_of (shown self.old.books) m.now) (reference_of (shown self.old.books) m.now)) }
-        ensures called { Called H.Host.held H.Host.assent H.Host.put_fate H.Host.read_fate (read (card_of (shown self.old.books) m.now) (reference_of (shown self.old.books) m.now)) self.old.host self.new.host }
+        ensures answer { on_read result ≡ reply H.Host self.old.host (read (card_of (shown self.old.books) m.now) (reference_of (shown self.old.books) m.now)) }
+        ensures called { Called H.Host (read (card_of (shown self.old.books) m.now) (reference_of (shown self.old.books) m.now)) self.old.host self.new.host }
         ensures books { self.new.books ≡ self.old.books }
     {
         let card = self.books.card_of(m);
@@ -70,7 +70,7 @@ impl<H: Host> Gateway<H> {
         requires same { m.now.kind ≡ kind_number kind }
         requires passed { refusal m.now.kind (book_checks (facts_of (shown self.old.books) m.now) m.now) ≡ None }
         requires small { m.now.amount ≤ most_pence }
-        ensures { Goes H.Host.held H.Host.assent H.Host.put_fate H.Host.read_fate Through m.now (shown self.old.books) self.old.host result (shown self.new.books) self.new.host }
+        ensures { Goes H.Host Through m.now (shown self.old.books) self.old.host result (shown self.new.books) self.new.host }
     {
         match kind {
             Kind::AuthReq => {
@@ -95,7 +95,7 @@ impl<H: Host> Gateway<H> {
 
     // A repeat of a message at which the host was silent: its put is made again.
     fn put_again(&mut self, m: &Fields) -> Performed
-        ensures { Goes H.Host.held H.Host.assent H.Host.put_fate H.Host.read_fate Retry m.now (shown self.old.books) self.old.host result (shown self.new.books) self.new.host }
+        ensures { Goes H.Host Retry m.now (shown self.old.books) self.old.host result (shown self.new.books) self.new.host }
     {
         let reply = self.put(m);
         self.books.retry(m, reply)
@@ -105,7 +105,7 @@ impl<H: Host> Gateway<H> {
     fn go(&mut self, kind: Kind, m: &Fields) -> Performed
         requires same { m.now.kind ≡ kind_number kind }
         requires small { m.now.amount ≤ most_pence }
-        ensures { Goes H.Host.held H.Host.assent H.Host.put_fate H.Host.read_fate (way (shown self.old.books) m.now) m.now (shown self.old.books) self.old.host result (shown self.new.books) self.new.host }
+        ensures { Goes H.Host (way (shown self.old.books) m.now) m.now (shown self.old.books) self.old.host result (shown self.new.books) self.new.host }
     {
         match self.books.way(kind, m) {
             Way::Again(answer) => answer,
@@ -118,7 +118,7 @@ impl<H: Host> Gateway<H> {
     /// Performs an opened message and uses it up: it is answered, and moves books and host, as the rules say. It counts as
     /// handling the message's bytes, and carries the law over runs.
     pub fn perform(&mut self, message: Opened) -> Performed
-        ensures rules { Performs H.Host.held H.Host.assent H.Host.put_fate H.Host.read_fate message.fields (shown self.old.books) self.old.host result (shown self.new.books) self.new.host }
+        ensures rules { Performs H.Host message.fields (shown self.old.books) self.old.host result (shown self.new.books) self.new.host }
         ensures law { CarriesLaw H.Host.held (spelling message.fields) (full result) (shown self.old.books) self.old.host (shown self.new.books) self.new.host }
     {
         let kind = message.kind();

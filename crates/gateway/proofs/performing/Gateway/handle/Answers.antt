@@ -22,8 +22,8 @@ returns-then-lacks_room g c =
     let host = c.args.self.now.host in
     let short : no_room buffer strip ≡ true = sym c.if-lacks_room.ensures in
     record {
-      rules = refused_for_room h.held h.assent h.put_fate h.read_fate (no_room buffer strip) b l host buffer strip short;
-      law = no_room_law h.held h.assent h.put_fate h.read_fate (no_room buffer strip) b l host buffer strip short;
+      rules = refused_for_room h (no_room buffer strip) b l host buffer strip short;
+      law = no_room_law h (no_room buffer strip) b l host buffer strip short;
     }
 
 pub returns-in-Ok : goal.returns-in-Ok
@@ -45,8 +45,8 @@ returns-in-Ok g c =
     let blank : strip' ≡ blanked strip = c.open.ensures.after ∙ cond-false (ltb (length strip) strip_length) strip (blanked strip) long in
     let are : Bytes b = All-from_get_or (λ x. x < 256) b 0 (λ i within. (c.type_inv.message i).fits) in
     record {
-      rules = performed h.held h.assent h.put_fate h.read_fate (no_room buffer strip) b l host buffer strip room l' host' buffer' strip' blank m is c.kind-kind.result c.kind-kind.ensures c.answer_full.result c.answer_full.ensures.rules c.answer_full.ensures.after;
-      law = performed_law h.held h.assent h.put_fate h.read_fate (no_room buffer strip) b l host buffer strip room l' host' buffer' strip' blank m is are c.answer_full.result c.answer_full.ensures.law;
+      rules = performed h (no_room buffer strip) b l host buffer strip room l' host' buffer' strip' blank m is c.kind-kind.result c.kind-kind.ensures c.answer_full.result c.answer_full.ensures.rules c.answer_full.ensures.after;
+      law = performed_law h (no_room buffer strip) b l host buffer strip room l' host' buffer' strip' blank m is are c.answer_full.result c.answer_full.ensures.law;
     }
 
 pub returns-in-Err : goal.returns-in-Err
@@ -67,7 +67,7 @@ returns-in-Err g c =
     let are : Bytes b = All-from_get_or (λ x. x < 256) b 0 (λ i within. (c.type_inv.message i).fits) in
     record {
       rules =
-          refused h.held h.assent h.put_fate h.read_fate (no_room buffer strip) b l host buffer strip room l host buffer' strip' blank refl refl refusal is
+          refused h (no_room buffer strip) b l host buffer strip room l host buffer' strip' blank refl refl refusal is
           (c.write_short.ensures.after ∙ ap (λ n. over_front (short_into (length buffer) n) buffer) c.number.ensures);
-      law = refused_law h.held h.assent h.put_fate h.read_fate (no_room buffer strip) b l host buffer strip room l host buffer' strip' blank refl refl refusal is are;
+      law = refused_law h (no_room buffer strip) b l host buffer strip room l host buffer' strip' blank refl refl refusal is are;
     }

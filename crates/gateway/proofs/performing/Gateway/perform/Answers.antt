@@ -15,8 +15,8 @@ returns g c =
     let host = c.args.self.now.host in
     let host' = c.go.new.self.host in
     let h = g.H.Host in
-    let went = subst (λ x. Goes h.held h.assent h.put_fate h.read_fate (way l x) x l host c.go.result l' host') c.fields-m.ensures.value c.go.ensures in
-    let told = reply h.held h.assent h.put_fate h.read_fate host (call_of l m) in
+    let went = subst (λ x. Goes h (way l x) x l host c.go.result l' host') c.fields-m.ensures.value c.go.ensures in
+    let told = reply h host (call_of l m) in
     record {
       rules = record { answer = went.answer; books = went.books; called = went.called };
       law =

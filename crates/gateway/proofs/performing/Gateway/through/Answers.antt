@@ -13,7 +13,7 @@ returns-in-AuthRevReq g c =
     let m = c.args.m.now in
     let host = c.args.self.now.host in
     let put = c.put-reply-in-AuthRevReq in
-    let parts = reply g.H.Host.held g.H.Host.assent g.H.Host.put_fate g.H.Host.read_fate in
+    let parts = reply g.H.Host in
     let call : through_call l m ≡ put_of l m =
     ap (λ k. cond (among k (1 ∷ 2 ∷ [])) (put_of l m) (cond (eqb k 9) (read (card_of l m) (reference_of l m)) no_call)) (c.requires.same ∙ ap kind_number c.in-AuthRevReq.is) in
     let replied : on_put put.result ≡ parts host (through_call l m) = put.ensures.answer ∙ ap (parts host) (sym call) in
