@@ -1,4 +1,4 @@
+pub mod Books
 pub mod Handling
 pub mod Line
 pub mod Performing
-pub mod Shown

@@ -8,6 +8,11 @@ use Rattle.rules.specs.Rules.{Call, no_call, Reply, answer_by, answer_of, books_
 use Rattle.rules.specs.declared.outcome.Performed.{Performed}
 use Rattle.rules.specs.declared.way.Way.{Way}
 
+-- a message whose way is known: its answer, and the books after it, given the host's reply
+pub record Booked (w : Way) (m : Fields) (l : Ledger) (reply : Reply) (r : Performed) (l' : Ledger) : Type 0 where
+  pub answer : r ≡ answer_by w l m reply
+  pub books : l' ≡ books_by w l m reply
+
 -- over a host, by its meaning
 module _ {H : Type 0} (h : HostMeaning H) where
   -- what this host replies to a call
@@ -27,6 +32,5 @@ module _ {H : Type 0} (h : HostMeaning H) where
 
   -- the same of a message whose way is known
   pub record Goes (w : Way) (m : Fields) (l : Ledger) (host : H) (r : Performed) (l' : Ledger) (host' : H) : Type 0 where
-    pub answer : r ≡ answer_by w l m (reply host (call_by w (put_of l m) (through_call l m)))
-    pub books : l' ≡ books_by w l m (reply host (call_by w (put_of l m) (through_call l m)))
+    pub booked : Booked w m l (reply host (call_by w (put_of l m) (through_call l m))) r l'
     pub called : Called (call_by w (put_of l m) (through_call l m)) host host'

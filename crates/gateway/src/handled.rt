@@ -29,12 +29,12 @@ impl fmt::Display for Handled {
                 write!(f, "{code} -")
             }
             Handled::Full(Kind::BatchClose, performed) => {
-                let code = performed.outcome.code();
+                let code = u8::from(performed.outcome);
                 let total = performed.signed();
                 write!(f, "{code} {total}")
             }
             Handled::Full(_, performed) => {
-                let code = performed.outcome.code();
+                let code = u8::from(performed.outcome);
                 let amount = performed.amount;
                 write!(f, "{code} {amount}")
             }

@@ -7,7 +7,6 @@ ghost use Rattle.law.specs.History.{opened, spelling};
 ghost use Rattle.law.specs.Reached.{full};
 ghost use Rattle.gateway.specs.Handling.{Handles, HandlesLaw, answer_to, given_by, no_room};
 ghost use Rattle.gateway.specs.Performing.{Performs};
-ghost use Rattle.gateway.specs.Shown.{shown};
 
 use crate::handled::Handled;
 use crate::performing::Gateway;
@@ -33,7 +32,7 @@ fn answer_to(m: &Fields, performed: Performed) -> Answer
         request: m.request,
         course: m.course,
         amount: performed.amount,
-        code: performed.outcome.code(),
+        code: u8::from(performed.outcome),
     }
 }
 
@@ -41,8 +40,8 @@ impl<H: Host> Gateway<H> {
     // A message is performed, and its full answer written.
     fn answer_full(&mut self, message: Opened, answer: &mut [u8]) -> Performed
         ensures after { answer.new ≡ over_front (full_into (length answer.old) (answer_to message.fields result)) answer.old }
-        ensures rules { Performs H.Host message.fields (shown self.old.books) self.old.host result (shown self.new.books) self.new.host }
-        ensures law { CarriesLaw H.Host.held (spelling message.fields) (full result) (shown self.old.books) self.old.host (shown self.new.books) self.new.host }
+        ensures rules { Performs H.Host message.fields self.old.books self.old.host result self.new.books self.new.host }
+        ensures law { CarriesLaw H.Host.held (spelling message.fields) (full result) self.old.books self.old.host self.new.books self.new.host }
     {
         let m = message.fields();
         let performed = self.perform(message);
@@ -53,8 +52,8 @@ impl<H: Host> Gateway<H> {
     /// Handles the bytes of a message: opens them on the strip, performs the message, and writes its answer into the front of
     /// the answer buffer. A buffer under 24 bytes or a strip under 19 is refused first, and everything stays as it was.
     pub fn handle(&mut self, message: &[u8], strip: &mut [u8], answer: &mut [u8]) -> Handled
-        ensures rules { Handles H.Host (no_room answer.old strip.old) (opened message.now) (shown self.old.books) self.old.host answer.old strip.old result (shown self.new.books) self.new.host answer.new strip.new }
-        ensures law { HandlesLaw (no_room answer.old strip.old) H.Host.held message.now (given_by result) (shown self.old.books) self.old.host (shown self.new.books) self.new.host }
+        ensures rules { Handles H.Host (no_room answer.old strip.old) (opened message.now) self.old.books self.old.host answer.old strip.old result self.new.books self.new.host answer.new strip.new }
+        ensures law { HandlesLaw (no_room answer.old strip.old) H.Host.held message.now (given_by result) self.old.books self.old.host self.new.books self.new.host }
     {
         if lacks_room(answer, strip) {
             return Handled::NoRoom;

@@ -1,10 +1,10 @@
 // What captures, credits and their reversals make of the books, and their answers.
-ghost use Rattle.std.specs.Prelude.{◌≡◌, suc, ◌<◌, ◌≤◌, true, [], ◌∷◌, pos, ◌+ℤ◌, ◌-ℤ◌, is_some, Some, None, vec_len};
-ghost use Rattle.fields.specs.Kind.{kind_number};
+ghost use Rattle.std.specs.Prelude.{◌≡◌, suc, ◌<◌, ◌≤◌, true, [], ◌∷◌, length, pos, ◌+ℤ◌, ◌-ℤ◌, is_some, Some, None};
 ghost use Rattle.rules.specs.Checks.{among, book_checks, refusal};
 ghost use Rattle.rules.specs.Ledger.{batch_row, facts_of, purchase_row};
-ghost use Rattle.rules.specs.Rules.{answered, left_of, moved, noted, on_batch, on_purchase, remembered, uncalled, with_captured, with_credited, with_total};
-ghost use Rattle.gateway.specs.Shown.{shown};
+ghost use Rattle.rules.specs.Rules.{left_of, noted, on_batch, on_purchase, uncalled, with_captured, with_credited, with_total};
+ghost use Rattle.rules.specs.declared.way.Way.TheVariants.{Through};
+ghost use Rattle.gateway.specs.Performing.{Booked};
 ghost use Rattle.rules.specs.Sound.{most_pence, most_total, size, sound_purchase, within};
 
 use crate::books::Books;
@@ -14,6 +14,7 @@ use rules::checks::uncredited;
 use rules::outcome::{Outcome, Performed};
 use rules::purchase::Purchase;
 use wire::message::Fields;
+use wire::opened::Opened;
 
 // A batch with an amount added to its total.
 fn added(b: Batch, amount: u64) -> Batch
@@ -61,11 +62,11 @@ fn credited(p: Purchase, amount: u64) -> Purchase
 impl Books {
     // The purchase and the batch rewritten, and the message noted with what is left of the capture.
     fn book(&mut self, m: &Fields, p: Purchase, b: Batch) -> Performed
-        requires memory { vec_len self.old.answers < 256 }
+        requires memory { length self.old.answers < 256 }
         requires sound { sound_purchase p ≡ true }
-        requires bound { within (most_total (suc (vec_len self.old.answers))) b ≡ true }
+        requires bound { within (most_total (suc (length self.old.answers))) b ≡ true }
         ensures value { result ≡ left_of p }
-        ensures rows { shown self.new ≡ noted m.now (left_of p) (on_batch m.now (λ _. b) (on_purchase m.now (λ _. p) (shown self.old))) }
+        ensures rows { self.new ≡ noted m.now (left_of p) (on_batch m.now (λ _. b) (on_purchase m.now (λ _. p) self.old)) }
     {
         let answer = Performed {
             outcome: Outcome::Success,
@@ -79,13 +80,13 @@ impl Books {
 
     // The rows of the message's purchase and batch, which it is known to have.
     fn rows_of(&self, m: &Fields) -> (Purchase, Batch)
-        requires known { is_some (purchase_row (shown self.now) m.now) ≡ true }
-        requires open { is_some (batch_row (shown self.now) m.now) ≡ true }
-        ensures purchase { purchase_row (shown self.now) m.now ≡ Some result.0 }
-        ensures batch { batch_row (shown self.now) m.now ≡ Some result.1 }
+        requires known { is_some (purchase_row self.now m.now) ≡ true }
+        requires open { is_some (batch_row self.now m.now) ≡ true }
+        ensures purchase { purchase_row self.now m.now ≡ Some result.0 }
+        ensures batch { batch_row self.now m.now ≡ Some result.1 }
         ensures credited { result.0.credited ≤ result.0.captured }
         ensures captured { result.0.captured ≤ most_pence }
-        ensures total { within (most_total (vec_len self.now.answers)) result.1 ≡ true }
+        ensures total { within (most_total (length self.now.answers)) result.1 ≡ true }
         ensures bound { size result.1.total ≤ most_total 256 }
     {
         let facts = self.facts(m);
@@ -96,21 +97,19 @@ impl Books {
     }
 
     // A capture, a credit or the reversal of one: what it makes of its purchase and of its batch.
-    pub(crate) fn move_money(&mut self, kind: Kind, m: &Fields) -> Performed
-        requires kinds { among (kind_number kind) (3 ∷ 4 ∷ 5 ∷ 6 ∷ []) ≡ true }
-        requires same { m.now.kind ≡ kind_number kind }
-        requires passed { refusal m.now.kind (book_checks (facts_of (shown self.old) m.now) m.now) ≡ None }
-        requires small { m.now.amount ≤ most_pence }
-        ensures value { result ≡ answered (shown self.old) m.now uncalled }
-        ensures rows { shown self.new ≡ remembered m.now (answered (shown self.old) m.now uncalled) (moved (shown self.old) m.now uncalled) }
+    pub(crate) fn move_money(&mut self, message: &Opened) -> Performed
+        requires kinds { among message.now.fields.kind (3 ∷ 4 ∷ 5 ∷ 6 ∷ []) ≡ true }
+        requires passed { refusal message.now.fields.kind (book_checks (facts_of self.old message.now.fields) message.now.fields) ≡ None }
+        ensures { Booked Through message.now.fields self.old uncalled result self.new }
     {
-        let (p, b) = self.rows_of(m);
-        match kind {
-            Kind::CapReq => self.book(m, captured(p, m.amount, m.batch), added(b, m.amount)),
-            Kind::CapRevReq => self.book(m, captured(p, 0, p.batch), taken(b, p.captured)),
-            Kind::CredReq => self.book(m, credited(p, p.credited + m.amount), taken(b, m.amount)),
+        let m = message.fields();
+        let (p, b) = self.rows_of(&m);
+        match message.kind() {
+            Kind::CapReq => self.book(&m, captured(p, m.amount, m.batch), added(b, m.amount)),
+            Kind::CapRevReq => self.book(&m, captured(p, 0, p.batch), taken(b, p.captured)),
+            Kind::CredReq => self.book(&m, credited(p, p.credited + m.amount), taken(b, m.amount)),
             Kind::CredRevReq => self.book(
-                m,
+                &m,
                 credited(p, p.credited - m.amount),
                 added(b, m.amount),
             ),

@@ -1,25 +1,20 @@
 //! The gateway: its books, the host behind it, and performing a message.
 ghost use Rattle.std.specs.Prelude.{◌≡◌, ◌≤◌, IfOk, IfErr, None};
-ghost use Rattle.fields.specs.Kind.{kind_number};
 ghost use Rattle.rules.specs.Checks.{book_checks, refusal};
 ghost use Rattle.rules.specs.Ledger.{facts_of, no_ledger};
 ghost use Rattle.rules.specs.Rules.{card_of, on_put, on_read, put_of, read, reference_of, way};
 ghost use Rattle.rules.specs.declared.way.Way.TheVariants.{Retry, Through};
-ghost use Rattle.rules.specs.Sound.{most_pence};
 ghost use Rattle.law.specs.Carried.{BeginsLaw, CarriesLaw};
 ghost use Rattle.law.specs.History.{spelling};
 ghost use Rattle.law.specs.Reached.{full};
 ghost use Rattle.gateway.specs.Performing.{Called, Goes, Performs, reply};
-ghost use Rattle.gateway.specs.Shown.{shown};
 
 use crate::books::Books;
 use fields::kind::Kind;
 use host::{Host, PutReply, ReadReply};
 use rules::outcome::Performed;
-use rules::settle::read_answer;
 use rules::way::Way;
 use std::alloc::{AllocFailed, Global};
-use wire::message::Fields;
 use wire::opened::Opened;
 
 /// A gateway over a host. Neither its books nor its host can be written from outside.
@@ -32,9 +27,9 @@ pub struct Gateway<H> {
 impl<H: Host> Gateway<H> {
     /// A gateway with empty books; where there is no memory for them the host is handed back.
     pub fn new(heap: Global, host: H) -> Result<Gateway<H>, AllocFailed<H>>
-        ensures books { IfOk result (λ g. shown g.books ≡ no_ledger) }
+        ensures books { IfOk result (λ g. g.books ≡ no_ledger) }
         ensures host { IfOk result (λ g. g.host ≡ host) }
-        ensures law { IfOk result (λ g. BeginsLaw H.Host.held (shown g.books) g.host) }
+        ensures law { IfOk result (λ g. BeginsLaw H.Host.held g.books g.host) }
         ensures refused { IfErr result (λ back. back.value ≡ host) }
     {
         match Books::new(heap) {
@@ -44,85 +39,79 @@ impl<H: Host> Gateway<H> {
     }
 
     // The put of a message's amount, under its purchase's card and reference.
-    fn put(&mut self, m: &Fields) -> PutReply
-        ensures answer { on_put result ≡ reply H.Host self.old.host (put_of (shown self.old.books) m.now) }
-        ensures called { Called H.Host (put_of (shown self.old.books) m.now) self.old.host self.new.host }
+    fn put(&mut self, message: &Opened) -> PutReply
+        ensures answer { on_put result ≡ reply H.Host self.old.host (put_of self.old.books message.now.fields) }
+        ensures called { Called H.Host (put_of self.old.books message.now.fields) self.old.host self.new.host }
         ensures books { self.new.books ≡ self.old.books }
     {
-        let card = self.books.card_of(m);
-        let reference = self.books.reference_of(m);
+        let m = message.fields();
+        let card = self.books.card_of(message);
+        let reference = self.books.reference_of(&m);
         self.host.put(card, reference, m.amount)
     }
 
     // The read of what is held under the purchase's card and reference.
-    fn read(&mut self, m: &Fields) -> ReadReply
-        ensures answer { on_read result ≡ reply H.Host self.old.host (read (card_of (shown self.old.books) m.now) (reference_of (shown self.old.books) m.now)) }
-        ensures called { Called H.Host (read (card_of (shown self.old.books) m.now) (reference_of (shown self.old.books) m.now)) self.old.host self.new.host }
+    fn read(&mut self, message: &Opened) -> ReadReply
+        ensures answer { on_read result ≡ reply H.Host self.old.host (read (card_of self.old.books message.now.fields) (reference_of self.old.books message.now.fields)) }
+        ensures called { Called H.Host (read (card_of self.old.books message.now.fields) (reference_of self.old.books message.now.fields)) self.old.host self.new.host }
         ensures books { self.new.books ≡ self.old.books }
     {
-        let card = self.books.card_of(m);
-        let reference = self.books.reference_of(m);
+        let m = message.fields();
+        let card = self.books.card_of(message);
+        let reference = self.books.reference_of(&m);
         self.host.read(card, reference)
     }
 
     // A message that is past all checks.
-    fn through(&mut self, kind: Kind, m: &Fields) -> Performed
-        requires same { m.now.kind ≡ kind_number kind }
-        requires passed { refusal m.now.kind (book_checks (facts_of (shown self.old.books) m.now) m.now) ≡ None }
-        requires small { m.now.amount ≤ most_pence }
-        ensures { Goes H.Host Through m.now (shown self.old.books) self.old.host result (shown self.new.books) self.new.host }
+    fn through(&mut self, message: &Opened) -> Performed
+        requires { refusal message.now.fields.kind (book_checks (facts_of self.old.books message.now.fields) message.now.fields) ≡ None }
+        ensures { Goes H.Host Through message.now.fields self.old.books self.old.host result self.new.books self.new.host }
     {
-        match kind {
+        let m = message.fields();
+        match message.kind() {
             Kind::AuthReq => {
-                let reply = self.put(m);
-                self.books.authorise(m, reply)
+                let reply = self.put(message);
+                self.books.authorise(message, reply)
             }
             Kind::AuthRevReq => {
-                let reply = self.put(m);
-                self.books.lower(m, reply)
+                let reply = self.put(message);
+                self.books.lower(message, reply)
             }
             Kind::CapReq | Kind::CapRevReq | Kind::CredReq | Kind::CredRevReq => self
                 .books
-                .move_money(kind, m),
-            Kind::BatchOpen => self.books.open_batch(m),
-            Kind::BatchClose => self.books.close_batch(m),
-            Kind::Inquiry => {
-                let reply = self.read(m);
-                read_answer(reply)
-            }
+                .move_money(message),
+            Kind::BatchOpen => self.books.open_batch(&m),
+            Kind::BatchClose => self.books.close_batch(&m),
+            Kind::Inquiry => Performed::from(self.read(message)),
         }
     }
 
     // A repeat of a message at which the host was silent: its put is made again.
-    fn put_again(&mut self, m: &Fields) -> Performed
-        ensures { Goes H.Host Retry m.now (shown self.old.books) self.old.host result (shown self.new.books) self.new.host }
+    fn put_again(&mut self, message: &Opened) -> Performed
+        ensures { Goes H.Host Retry message.now.fields self.old.books self.old.host result self.new.books self.new.host }
     {
-        let reply = self.put(m);
-        self.books.retry(m, reply)
+        let reply = self.put(message);
+        self.books.retry(message, reply)
     }
 
     // The way that the rules give.
-    fn go(&mut self, kind: Kind, m: &Fields) -> Performed
-        requires same { m.now.kind ≡ kind_number kind }
-        requires small { m.now.amount ≤ most_pence }
-        ensures { Goes H.Host (way (shown self.old.books) m.now) m.now (shown self.old.books) self.old.host result (shown self.new.books) self.new.host }
+    fn go(&mut self, message: &Opened) -> Performed
+        ensures { Goes H.Host (way self.old.books message.now.fields) message.now.fields self.old.books self.old.host result self.new.books self.new.host }
     {
-        match self.books.way(kind, m) {
+        match self.books.way(message) {
             Way::Again(answer) => answer,
-            Way::Retry => self.put_again(m),
-            Way::Stopped(outcome) => self.books.stop(m, outcome),
-            Way::Through => self.through(kind, m),
+            Way::Retry => self.put_again(message),
+            Way::Stopped(outcome) => self.books.stop(message, outcome),
+            Way::Through => self.through(message),
         }
     }
 
     /// Performs an opened message and uses it up: it is answered, and moves books and host, as the rules say. It counts as
     /// handling the message's bytes, and carries the law over runs.
     pub fn perform(&mut self, message: Opened) -> Performed
-        ensures rules { Performs H.Host message.fields (shown self.old.books) self.old.host result (shown self.new.books) self.new.host }
-        ensures law { CarriesLaw H.Host.held (spelling message.fields) (full result) (shown self.old.books) self.old.host (shown self.new.books) self.new.host }
+        ensures rules { Performs H.Host message.fields self.old.books self.old.host result self.new.books self.new.host }
+        ensures law { CarriesLaw H.Host.held (spelling message.fields) (full result) self.old.books self.old.host self.new.books self.new.host }
     {
-        let kind = message.kind();
-        let m = message.fields();
-        self.go(kind, &m)
+        self.go(&message)
     }
 }

@@ -1,36 +1,43 @@
 // What a refusal leaves in the books.
-ghost use Rattle.std.specs.Prelude.{◌≡◌, ◌<◌, true, vec_len};
-ghost use Rattle.rules.specs.Rules.{refused_with, remembered, remembers};
-ghost use Rattle.gateway.specs.Shown.{shown};
+ghost use Rattle.std.specs.Prelude.{◌≡◌, ◌<◌, true, length, ◌==◌};
+ghost use Rattle.rules.specs.Rules.{remembers, uncalled};
+ghost use Rattle.rules.specs.declared.way.Way.TheVariants.{Stopped};
+ghost use Rattle.gateway.specs.Performing.{Booked};
 
 use crate::books::Books;
 use crate::puts::refused_amount;
+use fields::kind::Kind;
 use rules::outcome::{Outcome, Performed};
-use wire::message::Fields;
+use wire::opened::Opened;
+
+fn is_inquiry(message: &Opened) -> bool
+    ensures { result ≡ (message.now.fields.kind == 9) }
+{
+    matches!(message.kind(), Kind::Inquiry)
+}
 
 // An inquiry is never remembered, nor a message refused because its request number is used or the memory is full.
-fn remembers(m: &Fields, outcome: Outcome) -> bool
-    ensures { result ≡ remembers m.now outcome }
+fn remembers(message: &Opened, outcome: Outcome) -> bool
+    ensures { result ≡ remembers message.now.fields outcome }
 {
     match outcome {
         Outcome::RequestNumberUsed | Outcome::MemoryFull => false,
-        _ => m.kind != 9,
+        _ => !is_inquiry(message),
     }
 }
 
 impl Books {
     // A message that a check refuses moves nothing; its refusal is remembered, if such a refusal is.
-    pub(crate) fn stop(&mut self, m: &Fields, outcome: Outcome) -> Performed
-        requires { remembers m.now outcome ≡ true → vec_len self.old.answers < 256 }
-        ensures value { result ≡ refused_with m.now outcome }
-        ensures rows { shown self.new ≡ remembered m.now (refused_with m.now outcome) (shown self.old) }
+    pub(crate) fn stop(&mut self, message: &Opened, outcome: Outcome) -> Performed
+        requires { remembers message.now.fields outcome ≡ true → length self.old.answers < 256 }
+        ensures { Booked (Stopped outcome) message.now.fields self.old uncalled result self.new }
     {
         let answer = Performed {
             outcome,
-            amount: refused_amount(m),
+            amount: refused_amount(message),
         };
-        if remembers(m, outcome) {
-            self.remember(m, answer);
+        if remembers(message, outcome) {
+            self.remember(&message.fields(), answer);
         }
         answer
     }

@@ -2,7 +2,6 @@ pub mod Answering
 pub mod Booking
 pub mod Every
 pub mod Passed
-pub mod Sames
 pub mod Settles
 pub mod Totals
 pub mod Ways

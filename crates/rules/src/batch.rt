@@ -1,9 +1,11 @@
 // A batch in the books.
+ghost use Rattle.std.specs.Prelude.{◌≡◌};
 ghost use Rattle.rules.specs.Ledger.{of_batch};
 
 use rows::Keyed;
+use wire::message::Fields;
 
-#[derive(Clone, Copy)]
+#[derive(Clone, Copy, PartialEq, Eq, Debug)]
 pub struct Batch {
     pub course: u32,
     pub number: u32,
@@ -13,10 +15,22 @@ pub struct Batch {
 }
 
 // A batch is known by its course and number.
-#[derive(Clone, Copy)]
+#[derive(Clone, Copy, PartialEq, Eq, Debug)]
 pub struct BatchKey {
     pub course: u32,
     pub number: u32,
+}
+
+impl BatchKey {
+    /// The key of the batch that a message names.
+    pub fn of(m: &Fields) -> BatchKey
+        ensures { result ≡ record { course = m.now.course; number = m.now.batch } }
+    {
+        BatchKey {
+            course: m.course,
+            number: m.batch,
+        }
+    }
 }
 
 impl Keyed for Batch {

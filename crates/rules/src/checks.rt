@@ -12,37 +12,35 @@ use crate::purchase::Purchase;
 use fields::kind::Kind;
 use wire::message::Fields;
 
-// What stands for a purchase that is not there.
+// What stands for a purchase or a batch that is not there.
+const NO_PURCHASE: Purchase = Purchase {
+    xid: [0; 20],
+    course: 0,
+    card: 0,
+    authorised: 0,
+    captured: 0,
+    credited: 0,
+    batch: 0,
+    doubt: None,
+};
+
+const NO_BATCH: Batch = Batch {
+    course: 0,
+    number: 0,
+    closed: false,
+    total: 0,
+};
+
 pub fn purchase_or_none(found: Option<Purchase>) -> Purchase
     ensures { result ≡ unwrap_or found no_purchase }
 {
-    match found {
-        Some(purchase) => purchase,
-        None => Purchase {
-            xid: [0; 20],
-            course: 0,
-            card: 0,
-            authorised: 0,
-            captured: 0,
-            credited: 0,
-            batch: 0,
-            doubt: None,
-        },
-    }
+    found.unwrap_or(NO_PURCHASE)
 }
 
 fn batch_or_none(found: Option<Batch>) -> Batch
     ensures { result ≡ unwrap_or found no_batch }
 {
-    match found {
-        Some(batch) => batch,
-        None => Batch {
-            course: 0,
-            number: 0,
-            closed: false,
-            total: 0,
-        },
-    }
+    found.unwrap_or(NO_BATCH)
 }
 
 // A known purchase is another course's.

@@ -9,7 +9,7 @@ pub const ANSWERS: usize = 256;
 
 pub const BATCHES: usize = 8;
 
-#[derive(Clone, Copy)]
+#[derive(Clone, Copy, PartialEq, Eq, Debug)]
 pub struct Facts {
     pub answers: usize,
     pub purchases: usize,

@@ -27,16 +27,16 @@ pub enum Outcome {
     HostSilent = 25,
 }
 
-impl Outcome {
-    pub fn code(self) -> u8
-        ensures { result ≡ outcome_code self }
-    {
-        self as u8
+impl From<Outcome> for u8 {
+    ghost from_gives = { λ outcome code. code ≡ outcome_code outcome };
+
+    fn from(outcome: Outcome) -> u8 {
+        outcome as u8
     }
 }
 
 // What a message is answered: how it came out, and an amount in pence, in two's complement where it is a batch total.
-#[derive(Clone, Copy)]
+#[derive(Clone, Copy, PartialEq, Eq, Debug)]
 pub struct Performed {
     pub outcome: Outcome,
     pub amount: u64,

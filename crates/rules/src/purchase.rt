@@ -5,7 +5,7 @@ use crate::same::same_xid;
 use rows::Keyed;
 use wire::message::{Card, Xid};
 
-#[derive(Clone, Copy)]
+#[derive(Clone, Copy, PartialEq, Eq, Debug)]
 pub struct Purchase {
     pub xid: Xid,
     pub course: u32,

@@ -53,28 +53,32 @@ pub fn settle(p: Purchase, reply: PutReply, amount: u64) -> Purchase
     }
 }
 
-pub fn put_outcome(reply: PutReply) -> Outcome
-    ensures { result ≡ outcome_of (on_put reply) }
-{
-    match reply {
-        PutReply::Done => Outcome::Success,
-        PutReply::Refused => Outcome::HostRefused,
-        PutReply::Silent => Outcome::HostSilent,
+impl From<PutReply> for Outcome {
+    ghost from_gives = { λ reply outcome. outcome ≡ outcome_of (on_put reply) };
+
+    fn from(reply: PutReply) -> Outcome {
+        match reply {
+            PutReply::Done => Outcome::Success,
+            PutReply::Refused => Outcome::HostRefused,
+            PutReply::Silent => Outcome::HostSilent,
+        }
     }
 }
 
 // What an inquiry is answered: what the host holds, or nothing where it gave no answer.
-pub fn read_answer(reply: ReadReply) -> Performed
-    ensures { result ≡ record { outcome = outcome_of (on_read reply); amount = held_by (on_read reply) } }
-{
-    match reply {
-        ReadReply::Holds(amount) => Performed {
-            outcome: Outcome::Success,
-            amount,
-        },
-        ReadReply::Silent => Performed {
-            outcome: Outcome::HostSilent,
-            amount: 0,
-        },
+impl From<ReadReply> for Performed {
+    ghost from_gives = { λ reply answer. answer ≡ record { outcome = outcome_of (on_read reply); amount = held_by (on_read reply) } };
+
+    fn from(reply: ReadReply) -> Performed {
+        match reply {
+            ReadReply::Holds(amount) => Performed {
+                outcome: Outcome::Success,
+                amount,
+            },
+            ReadReply::Silent => Performed {
+                outcome: Outcome::HostSilent,
+                amount: 0,
+            },
+        }
     }
 }

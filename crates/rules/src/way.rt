@@ -1,7 +1,7 @@
 // Which way a message goes.
 use crate::outcome::{Outcome, Performed};
 
-#[derive(Clone, Copy)]
+#[derive(Clone, Copy, PartialEq, Eq, Debug)]
 pub enum Way {
     // a repeat: the remembered answer again
     Again(Performed),

@@ -3,7 +3,6 @@ use Rattle.std.specs.Option.{option_map}
 use Rattle.rows.proofs.First.{row_update}
 use Rattle.rules.specs.Ledger.{batch_of, batch_row, no_batch, of_batch}
 use Rattle.rules.specs.Rules.{answered, moved, on_batch, shut, uncalled, noted}
-use Rattle.gateway.specs.Shown.{shown}
 use Rattle.rules.specs.declared.batch.Batch.{Batch}
 use Rattle.rules.specs.declared.outcome.Outcome.TheVariants.{Success}
 use Rattle.rules.specs.declared.outcome.Performed.{Performed}
@@ -20,7 +19,7 @@ paid amount = record { outcome = Success; amount = amount }
 
 pub returns : goal.returns
 returns c =
-    let l = shown c.args.self.now in
+    let l = c.args.self.now in
     let m = c.args.m.now in
     let kind = c.requires.kind in
     let sought = of_batch m.course m.batch in
@@ -31,14 +30,14 @@ returns c =
     ∙ total_stays (batch_row l m) in
     let amount : c.total_bits.result ≡ of_z w64 (batch_of (moved l m uncalled) m).total =
     c.total_bits.ensures
-    ∙ ap (λ f. of_z w64 (unwrap_or f.batch no_batch).total) c.facts-facts.ensures
+    ∙ ap (λ f. of_z w64 (unwrap_or f.batch no_batch).total) c.facts-facts.ensures.value
     ∙ ap (of_z w64) (sym total) in
     let value : paid c.total_bits.result ≡ answered l m uncalled = ap paid amount ∙ sym (answered_at l m 8 kind uncalled) in
     record {
-      value = value;
-      rows =
-          c.remember.ensures.rows
-          ∙ ap (noted m (paid c.total_bits.result)) (c.shut.ensures.rows ∙ sym here)
+      answer = value;
+      books =
+          c.remember.ensures
+          ∙ ap (noted m (paid c.total_bits.result)) (c.shut.ensures ∙ sym here)
           ∙ ap (λ a. noted m a (moved l m uncalled)) value
           ∙ sym (remembered_at l m 8 kind uncalled (answered l m uncalled) (moved l m uncalled) refl);
     }

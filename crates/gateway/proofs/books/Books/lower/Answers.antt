@@ -1,21 +1,20 @@
 use Rattle.std.proofs.Common.{sym, ap, ◌∙◌}
-use Rattle.rules.specs.Rules.{answered, moved, on_put, noted}
-use Rattle.gateway.specs.Shown.{shown}
+use Rattle.rules.specs.Rules.{answered, moved, noted, on_put, put_answered}
 use Rattle.rules.proofs.Answering.{answered_at, moved_at, put_kept, remembered_at}
 use Rattle.gateway.proofs.books.Books.lower.Goals as goal
 
 pub returns : goal.returns
 returns c =
-    let l = shown c.args.self.now in
-    let m = c.args.m.now in
+    let l = c.args.self.now in
+    let m = c.args.message.now.fields in
     let reply = on_put c.args.reply in
     let kind = c.requires.kind in
-    let value = c.put_answer-answer.ensures ∙ sym (answered_at l m 2 kind reply) in
+    let answer = sym (answered_at l m 2 kind reply) in
     record {
-      value = value;
-      rows =
-          c.remember.ensures.rows
-          ∙ ap (noted m c.put_answer-answer.result) (c.settle.ensures.rows ∙ sym (moved_at l m 2 kind reply))
-          ∙ ap (λ a. noted m a (moved l m reply)) value
+      answer = c.note_put.ensures.value ∙ answer;
+      books =
+          c.note_put.ensures.rows
+          ∙ ap (noted m (put_answered m reply)) (sym (moved_at l m 2 kind reply))
+          ∙ ap (λ a. noted m a (moved l m reply)) answer
           ∙ sym (remembered_at l m 2 kind reply (answered l m reply) (moved l m reply) (put_kept c.args.reply));
     }

@@ -1,8 +1,6 @@
-use Rattle.std.proofs.Common.{◌≡◌, List, Some, None, vec_items, vec_len, sym, refl, ap, ◌∙◌}
-use Rattle.rows.specs.First.{row_with}
-use Rattle.rules.specs.Ledger.{Ledger, of_batch}
+use Rattle.std.proofs.Common.{◌≡◌, List, length, Some, None, sym, ap, ◌∙◌}
+use Rattle.rules.specs.Ledger.{Ledger, batch_row, of_batch}
 use Rattle.rules.specs.Rules.{shut}
-use Rattle.gateway.specs.Shown.{shown}
 use Rattle.rules.specs.Sound.{most_total, within}
 use Rattle.rules.specs.declared.batch.Batch.{Batch}
 use Rattle.rules.proofs.Every.{every_row, update_const, update_nothing}
@@ -13,27 +11,21 @@ with_batches l rows = record { purchases = l.purchases; answers = l.answers; bat
 
 pub set_batch-requires : goal.set_batch-requires
 set_batch-requires c =
-    let b = c.args.self.now in
+    let l = c.args.self.now in
     let m = c.args.m.now in
-    let sought = of_batch m.course m.batch in
-    let row : row_with sought (vec_items b.batches) ≡ Some c.in-Some.b = ap (row_with sought) (sym c.as_slice.ensures.value) ∙ sym c.in-Some.ensures in
-    every_row (within (most_total (vec_len b.answers))) sought (vec_items b.batches) c.in-Some.b b.totals row
+    let row : batch_row l m ≡ Some c.in-Some.b = sym (ap (λ f. f.batch) c.facts.ensures.value) ∙ c.in-Some.is in
+    every_row (within (most_total (length l.answers))) (of_batch m.course m.batch) l.batches c.in-Some.b c.facts.ensures.totals row
 
 pub returns-in-Some : goal.returns-in-Some
 returns-in-Some c =
-    let b = c.args.self.now in
+    let l = c.args.self.now in
     let m = c.args.m.now in
-    let sought = of_batch m.course m.batch in
-    let row : row_with sought (vec_items b.batches) ≡ Some c.in-Some.b = ap (row_with sought) (sym c.as_slice.ensures.value) ∙ sym c.in-Some.ensures in
-    record {
-      rows = c.set_batch.ensures.rows ∙ ap (with_batches (shown b)) (update_const sought shut (vec_items b.batches) c.in-Some.b row);
-      answers = c.set_batch.ensures.answers;
-    }
+    let row : batch_row l m ≡ Some c.in-Some.b = sym (ap (λ f. f.batch) c.facts.ensures.value) ∙ c.in-Some.is in
+    c.set_batch.ensures ∙ ap (with_batches l) (update_const (of_batch m.course m.batch) shut l.batches c.in-Some.b row)
 
 pub returns-in_default : goal.returns-in_default
 returns-in_default c =
-    let b = c.args.self.now in
+    let l = c.args.self.now in
     let m = c.args.m.now in
-    let sought = of_batch m.course m.batch in
-    let row : row_with sought (vec_items b.batches) ≡ None = ap (row_with sought) (sym c.as_slice.ensures.value) ∙ sym c.in_default.ensures in
-    record { rows = ap (with_batches (shown b)) (sym (update_nothing sought shut (vec_items b.batches) row)); answers = refl }
+    let row : batch_row l m ≡ None = sym (ap (λ f. f.batch) c.facts.ensures.value) ∙ c.in_default.is in
+    ap (with_batches l) (sym (update_nothing (of_batch m.course m.batch) shut l.batches row))

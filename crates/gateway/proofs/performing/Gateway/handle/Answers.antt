@@ -8,7 +8,6 @@ use Rattle.wire.specs.RoundTrip.{Bytes}
 use Rattle.wire.specs.Strip.{blanked, strip_length}
 use Rattle.law.specs.History.{opened}
 use Rattle.gateway.specs.Handling.{no_room}
-use Rattle.gateway.specs.Shown.{shown}
 use Rattle.gateway.proofs.Handlings.{refused_for_room, no_room_law, opened_on, performed, performed_law, refused, refused_law}
 use Rattle.gateway.proofs.performing.Gateway.handle.Goals as goal
 
@@ -18,7 +17,7 @@ returns-then-lacks_room g c =
     let b = c.args.message.now in
     let buffer = c.args.answer.now in
     let strip = c.args.strip.now in
-    let l = shown c.args.self.now.books in
+    let l = c.args.self.now.books in
     let host = c.args.self.now.host in
     let short : no_room buffer strip ≡ true = sym c.if-lacks_room.ensures in
     record {
@@ -32,9 +31,9 @@ returns-in-Ok g c =
     let b = c.args.message.now in
     let buffer = c.args.answer.now in
     let strip = c.args.strip.now in
-    let l = shown c.args.self.now.books in
+    let l = c.args.self.now.books in
     let host = c.args.self.now.host in
-    let l' = shown c.answer_full.new.self.books in
+    let l' = c.answer_full.new.self.books in
     let host' = c.answer_full.new.self.host in
     let buffer' = c.answer_full.new.answer in
     let strip' = c.open.new.strip in
@@ -55,7 +54,7 @@ returns-in-Err g c =
     let b = c.args.message.now in
     let buffer = c.args.answer.now in
     let strip = c.args.strip.now in
-    let l = shown c.args.self.now.books in
+    let l = c.args.self.now.books in
     let host = c.args.self.now.host in
     let buffer' = c.write_short.new.buffer in
     let strip' = c.open.new.strip in

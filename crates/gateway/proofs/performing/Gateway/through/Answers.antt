@@ -1,31 +1,56 @@
-use Rattle.std.proofs.Common.{◌≡◌, cond, eqb, [], ◌∷◌, sym, ap, ◌∙◌}
+use Rattle.std.proofs.Common.{◌≡◌, ℕ, cond, eqb, ◌⊎◌, ⊎_elim, [], ◌∷◌, sym, refl, ap, ◌∙◌, subst}
 use Rattle.fields.specs.Kind.{kind_number}
+use Rattle.fields.specs.declared.kind.Kind.{Kind}
+use Rattle.fields.specs.declared.kind.Kind.TheVariants.{CapReq, CapRevReq, CredReq, CredRevReq}
+use Rattle.wire.specs.declared.message.Fields.{Fields}
 use Rattle.rules.specs.Checks.{among}
-use Rattle.rules.specs.Rules.{answered, card_of, moved, no_call, on_put, put_of, read, reference_of, remembered, through_call}
-use Rattle.gateway.specs.Performing.{reply}
-use Rattle.gateway.specs.Shown.{shown}
+use Rattle.rules.specs.Ledger.{Ledger}
+use Rattle.rules.specs.Rules.{Call, answered, card_of, moved, no_call, on_put, put_of, read, reference_of, remembered, through_call, uncalled}
+use Rattle.rules.specs.declared.way.Way.TheVariants.{Through}
+use Rattle.gateway.specs.Performing.{Booked, reply}
 use Rattle.gateway.proofs.performing.Gateway.through.Goals as goal
 
 -- the put of an authorisation reversal is the call that it makes
 pub returns-in-AuthRevReq : goal.returns-in-AuthRevReq
 returns-in-AuthRevReq g c =
-    let l = shown c.args.self.now.books in
-    let m = c.args.m.now in
+    let l = c.args.self.now.books in
+    let m = c.args.message.now.fields in
     let host = c.args.self.now.host in
     let put = c.put-reply-in-AuthRevReq in
     let parts = reply g.H.Host in
     let call : through_call l m ≡ put_of l m =
-    ap (λ k. cond (among k (1 ∷ 2 ∷ [])) (put_of l m) (cond (eqb k 9) (read (card_of l m) (reference_of l m)) no_call)) (c.requires.same ∙ ap kind_number c.in-AuthRevReq.is) in
+    ap (λ k. cond (among k (1 ∷ 2 ∷ [])) (put_of l m) (cond (eqb k 9) (read (card_of l m) (reference_of l m)) no_call)) (sym c.kind.ensures ∙ ap kind_number c.in-AuthRevReq.is) in
     let replied : on_put put.result ≡ parts host (through_call l m) = put.ensures.answer ∙ ap (parts host) (sym call) in
-    let answer =
-    c.lower.ensures.value
-    ∙ ap (λ b. answered (shown b) m (on_put put.result)) put.ensures.books
-    ∙ ap (answered l m) replied in
     record {
-      answer = answer;
-      books =
-          c.lower.ensures.rows
-          ∙ ap (λ b. remembered m (answered (shown b) m (on_put put.result)) (moved (shown b) m (on_put put.result))) put.ensures.books
-          ∙ ap (λ r. remembered m (answered l m r) (moved l m r)) replied;
+      booked = record {
+        answer =
+            c.lower.ensures.answer
+            ∙ ap (λ b. answered b m (on_put put.result)) put.ensures.books
+            ∙ ap (answered l m) replied;
+        books =
+            c.lower.ensures.books
+            ∙ ap (λ b. remembered m (answered b m (on_put put.result)) (moved b m (on_put put.result))) put.ensures.books
+            ∙ ap (λ r. remembered m (answered l m r) (moved l m r)) replied;
+      };
       called = rw call put.ensures.called;
+    }
+
+-- a capture, a credit or the reversal of one makes no call
+calls_none : (l : Ledger) (m : Fields) (k : Kind) → kind_number k ≡ m.kind → (k ≡ CapReq) ⊎ ((k ≡ CapRevReq) ⊎ ((k ≡ CredReq) ⊎ (k ≡ CredRevReq))) → through_call l m ≡ no_call
+calls_none l m k number =
+    let by : ℕ → Call = λ n. cond (among n (1 ∷ 2 ∷ [])) (put_of l m) (cond (eqb n 9) (read (card_of l m) (reference_of l m)) no_call) in
+    let at : (j : Kind) → k ≡ j → by m.kind ≡ by (kind_number j) = λ j is. ap by (sym number ∙ ap kind_number is) in
+    ⊎_elim (at CapReq) (⊎_elim (at CapRevReq) (⊎_elim (at CredReq) (at CredRevReq)))
+
+pub returns-in-CapReq : goal.returns-in-CapReq
+returns-in-CapReq g c =
+    let l = c.args.self.now.books in
+    let m = c.args.message.now.fields in
+    let host = c.args.self.now.host in
+    let moved = c.move_money.ensures in
+    let none = calls_none l m c.kind.result c.kind.ensures c.in-CapReq.is in
+    let replied : uncalled ≡ reply g.H.Host host (through_call l m) = ap (reply g.H.Host host) (sym none) in
+    record {
+      booked = subst (λ r. Booked Through m l r c.move_money.result c.move_money.new.self) replied moved;
+      called = rw none (record { holds = λ card reference. refl; same_host = λ is. refl });
     }

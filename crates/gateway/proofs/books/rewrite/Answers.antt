@@ -1,7 +1,7 @@
 use Rattle.std.proofs.Common.{Bool, Some, None, vec_items, sym, refl}
 use Rattle.rows.specs.First.{FirstOrNone}
 use Rattle.rows.proofs.First.{update_found, update_none}
-use Rattle.gateway.proofs.changes.rewrite.Goals as goal
+use Rattle.gateway.proofs.books.rewrite.Goals as goal
 
 pub returns-in-Some : goal.returns-in-Some
 returns-in-Some g c =
