@@ -1,13 +1,13 @@
-// Which way a message goes, and the card that its host call is made for.
+// Which way a message goes, and the card and the reference that its host call is made under.
 ghost use Rattle.std.specs.Prelude.{◌≡◌, if◌then◌else◌, Some, None};
 ghost use Rattle.fields.specs.Kind.{kind_number};
 ghost use Rattle.rules.specs.Checks.{refusal, request_checks};
-ghost use Rattle.rules.specs.Rules.{card_of, choose, is_silent, repeat_in, way};
+ghost use Rattle.rules.specs.Rules.{card_of, choose, is_silent, reference_of, repeat_in, way};
 ghost use Rattle.rules.specs.declared.way.Way.TheVariants.{Again, Retry};
 
 use crate::books::Books;
 use fields::kind::Kind;
-use host::Card;
+use host::{Card, Pair};
 use rules::checks::{book_refusal, purchase_or_none};
 use rules::outcome::{Outcome, Performed};
 use rules::remembered::Remembered;
@@ -59,13 +59,23 @@ fn choose(request: Option<Outcome>, repeated: Option<Performed>, book: Option<Ou
 
 impl Books {
     // An authorisation brings its card; any other message goes by its purchase's.
-    pub(crate) fn card_of(&self, message: &Opened) -> Card
+    fn card_of(&self, message: &Opened) -> Card
         ensures { result ≡ card_of self.now message.now.fields }
     {
         let m = message.fields();
         match message.kind() {
             Kind::AuthReq => m.card,
             _ => purchase_or_none(self.facts(&m).purchase).card,
+        }
+    }
+
+    // The card and the reference that a message's host call is made under.
+    pub(crate) fn pair_of(&self, message: &Opened) -> Pair
+        ensures { result ≡ record { card = card_of self.now message.now.fields; reference = reference_of self.now message.now.fields } }
+    {
+        Pair {
+            card: self.card_of(message),
+            reference: self.reference_of(&message.fields()),
         }
     }
 

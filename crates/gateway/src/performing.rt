@@ -44,10 +44,8 @@ impl<H: Host> Gateway<H> {
         ensures called { Called H.Host (put_of self.old.books message.now.fields) self.old.host self.new.host }
         ensures books { self.new.books ≡ self.old.books }
     {
-        let m = message.fields();
-        let card = self.books.card_of(message);
-        let reference = self.books.reference_of(&m);
-        self.host.put(card, reference, m.amount)
+        let pair = self.books.pair_of(message);
+        self.host.put(pair, message.fields().amount)
     }
 
     // The read of what is held under the purchase's card and reference.
@@ -56,10 +54,8 @@ impl<H: Host> Gateway<H> {
         ensures called { Called H.Host (read (card_of self.old.books message.now.fields) (reference_of self.old.books message.now.fields)) self.old.host self.new.host }
         ensures books { self.new.books ≡ self.old.books }
     {
-        let m = message.fields();
-        let card = self.books.card_of(message);
-        let reference = self.books.reference_of(&m);
-        self.host.read(card, reference)
+        let pair = self.books.pair_of(message);
+        self.host.read(pair)
     }
 
     // A message that is past all checks.

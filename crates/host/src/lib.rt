@@ -15,6 +15,13 @@ pub type Reference = u64;
 
 pub type Amount = u64;
 
+/// What a hold stands under: a card, and the reference of the purchase that it is held for.
+#[derive(Clone, Copy, PartialEq, Eq, Debug)]
+pub struct Pair {
+    pub card: Card,
+    pub reference: Reference,
+}
+
 /// What becomes of a call on its way to the host and back.
 #[derive(Clone, Copy, PartialEq, Eq, Debug)]
 pub enum Fate {
@@ -49,13 +56,13 @@ pub trait Host {
 
     ghost read_fate: { Self → ReadFates };
 
-    /// Asks that the amount held for the card under the reference become this one.
-    fn put(&mut self, card: Card, reference: Reference, amount: Amount) -> PutReply
-        ensures means { PutMeans (put_fate self.old) (held self.old) (assent self.old) (held self.new) card reference amount result };
+    /// Asks that the amount held for the pair become this one.
+    fn put(&mut self, pair: Pair, amount: Amount) -> PutReply
+        ensures means { PutMeans (put_fate self.old) (held self.old) (assent self.old) (held self.new) pair.card pair.reference amount result };
 
-    /// Asks what is held for the card under the reference.
-    fn read(&mut self, card: Card, reference: Reference) -> ReadReply
-        ensures means { ReadMeans (read_fate self.old) (held self.old) (held self.new) card reference result };
+    /// Asks what is held for the pair.
+    fn read(&mut self, pair: Pair) -> ReadReply
+        ensures means { ReadMeans (read_fate self.old) (held self.old) (held self.new) pair.card pair.reference result };
 }
 
 impl fmt::Display for PutReply {

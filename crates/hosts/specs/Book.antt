@@ -21,7 +21,7 @@ abbrev pub is_hold : CardNumber → ReferenceNumber → Hold → Bool
 is_hold card reference hold = not (is_free hold) && same_pair hold.card hold.reference card reference
 
 abbrev pub has_key : Hold → HoldKey → Bool
-has_key hold (Of card reference) = is_hold card reference hold
+has_key hold (Of pair) = is_hold pair.card pair.reference hold
 has_key hold Free = is_free hold
 
 abbrev pub free_hold : Hold

@@ -6,7 +6,7 @@ ghost use Rattle.host.specs.declared.Fate.TheVariants.{Heard};
 ghost use Rattle.hosts.specs.Book.{book_assents, free_hold, freed, has_key, held_in, holds_after, is_account, other_amount, other_holds, place_for, written};
 ghost use Rattle.hosts.specs.BookHost.{book_assent, book_held};
 
-use host::{Amount, Card, Host, PutReply, ReadReply, Reference};
+use host::{Amount, Card, Host, Pair, PutReply, ReadReply, Reference};
 use rows::{Keyed, find, search};
 
 #[derive(Clone, Copy)]
@@ -23,10 +23,11 @@ pub struct Hold {
     pub amount: Amount,
 }
 
-/// What a hold is looked for by: a card and a reference, or that it is free.
-#[derive(Clone, Copy)]
+/// What a hold is looked for by: the pair that it stands for, or that it is free.
+// No Option: a free row is asked for by its name, where `None` would read as no key at all.
+#[derive(Clone, Copy, PartialEq, Eq, Debug)]
 pub enum HoldKey {
-    Of(Card, Reference),
+    Of(Pair),
     Free,
 }
 
@@ -37,11 +38,20 @@ impl Hold {
         amount: 0,
     };
 
-    /// What the row counts for beside a hold of the pair: its amount, if it is the card's under another reference.
-    fn other_amount(&self, card: Card, reference: Reference) -> Amount
-        ensures { result ≡ other_amount card reference self.now }
+    fn pair(&self) -> Pair
+        ensures { result ≡ record { card = self.now.card; reference = self.now.reference } }
     {
-        if self.card == card && self.reference != reference {
+        Pair {
+            card: self.card,
+            reference: self.reference,
+        }
+    }
+
+    /// What the row counts for beside a hold of the pair: its amount, if it is the card's under another reference.
+    fn other_amount(&self, pair: Pair) -> Amount
+        ensures { result ≡ other_amount pair.card pair.reference self.now }
+    {
+        if self.card == pair.card && self.reference != pair.reference {
             self.amount
         } else {
             0
@@ -49,10 +59,10 @@ impl Hold {
     }
 
     /// The row, or a free one where it stands for the pair.
-    fn without(self, card: Card, reference: Reference) -> Hold
-        ensures { result ≡ freed card reference self }
+    fn without(self, pair: Pair) -> Hold
+        ensures { result ≡ freed pair.card pair.reference self }
     {
-        if self.has(&HoldKey::Of(card, reference)) {
+        if self.has(&HoldKey::Of(pair)) {
             Hold::FREE
         } else {
             self
@@ -77,45 +87,37 @@ impl Keyed for Hold {
 
     fn has(&self, key: &HoldKey) -> bool {
         match *key {
-            HoldKey::Of(card, reference) => self.amount != 0
-                && self.card == card
-                && self.reference == reference,
+            HoldKey::Of(pair) => self.amount != 0 && self.pair() == pair,
             HoldKey::Free => self.amount == 0,
         }
     }
 }
 
 /// The amount held for the pair, 0 for none.
-fn held_in(holds: &[Hold], card: Card, reference: Reference) -> Amount
-    ensures { result ≡ held_in holds.now card reference }
+fn held_in(holds: &[Hold], pair: Pair) -> Amount
+    ensures { result ≡ held_in holds.now pair.card pair.reference }
 {
-    match find(holds, &HoldKey::Of(card, reference)) {
-        Some(hold) => hold.amount,
-        None => 0,
-    }
+    find(holds, &HoldKey::Of(pair)).map_or(0, |hold| hold.amount)
 }
 
 /// Where a hold of the pair is written: its row, else the first free one.
-fn place_for(holds: &[Hold], card: Card, reference: Reference) -> Option<usize>
-    ensures value { result ≡ place_for holds.now card reference }
+fn place_for(holds: &[Hold], pair: Pair) -> Option<usize>
+    ensures value { result ≡ place_for holds.now pair.card pair.reference }
     ensures within { IfSome result (λ place. place < length holds.now) }
 {
-    match search(holds, &HoldKey::Of(card, reference)) {
-        Some(place) => Some(place),
-        None => search(holds, &HoldKey::Free),
-    }
+    search(holds, &HoldKey::Of(pair)).or_else(|| search(holds, &HoldKey::Free))
 }
 
 /// Whether the amount and the card's holds under other references come to at most the balance.
-fn covers(holds: &[Hold], card: Card, reference: Reference, amount: Amount, balance: Amount) -> bool
-    ensures { result ≡ nat_le (amount + other_holds holds.now card reference) balance }
+fn covers(holds: &[Hold], pair: Pair, amount: Amount, balance: Amount) -> bool
+    ensures { result ≡ nat_le (amount + other_holds holds.now pair.card pair.reference) balance }
 {
     // what is left is taken down step by step, since the sum may not fit its type
     let Some(mut left) = balance.checked_sub(amount) else {
         return false;
     };
     for hold in holds {
-        let other = hold.other_amount(card, reference);
+        let other = hold.other_amount(pair);
         if left < other {
             return false;
         }
@@ -126,63 +128,45 @@ fn covers(holds: &[Hold], card: Card, reference: Reference, amount: Amount, bala
 
 /// Frees the row of the pair. A pair has at most one in a book that was made cleared; where a lent
 /// list had more, all go, so that nothing is held for the pair after.
-fn release(holds: &mut [Hold], card: Card, reference: Reference)
-    ensures { holds.new ≡ map (freed card reference) holds.old }
+fn release(holds: &mut [Hold], pair: Pair)
+    ensures { holds.new ≡ map (freed pair.card pair.reference) holds.old }
 {
     for hold in holds.iter_mut() {
-        *hold = hold.without(card, reference);
+        *hold = hold.without(pair);
     }
 }
 
 /// Whether the book would raise a hold of the pair to the amount.
-fn assents(
-    accounts: &[Account],
-    holds: &[Hold],
-    card: Card,
-    reference: Reference,
-    amount: Amount,
-) -> bool
-    ensures { result ≡ book_assents accounts.now holds.now card reference amount }
+fn assents(accounts: &[Account], holds: &[Hold], pair: Pair, amount: Amount) -> bool
+    ensures { result ≡ book_assents accounts.now holds.now pair.card pair.reference amount }
 {
-    match find(accounts, &card) {
-        Some(account) => {
-            covers(holds, card, reference, amount, account.balance)
-                && place_for(holds, card, reference).is_some()
-        }
-        None => false,
-    }
+    find(accounts, &pair.card).is_some_and(|account| {
+        covers(holds, pair, amount, account.balance) && place_for(holds, pair).is_some()
+    })
 }
 
 /// Writes the amount into the pair's row or the first free one; 0 frees the row.
-fn write(holds: &mut [Hold], card: Card, reference: Reference, amount: Amount)
-    ensures { holds.new ≡ written holds.old card reference amount }
+fn write(holds: &mut [Hold], pair: Pair, amount: Amount)
+    ensures { holds.new ≡ written holds.old pair.card pair.reference amount }
 {
     if amount == 0 {
-        release(holds, card, reference);
-    } else if let Some(place) = place_for(holds, card, reference) {
+        release(holds, pair);
+    } else if let Some(place) = place_for(holds, pair) {
         holds[place] = Hold {
-            card,
-            reference,
+            card: pair.card,
+            reference: pair.reference,
             amount,
         };
     }
 }
 
 /// A put that is heard: done where it is no raise or has assent, and refused otherwise.
-fn put_hold(
-    accounts: &[Account],
-    holds: &mut [Hold],
-    card: Card,
-    reference: Reference,
-    amount: Amount,
-) -> PutReply
-    ensures reply { result ≡ put_reply Heard (held_in holds.old card reference) (book_assents accounts.now holds.old card reference amount) amount }
-    ensures rows { holds.new ≡ holds_after accounts.now holds.old card reference amount }
+fn put_hold(accounts: &[Account], holds: &mut [Hold], pair: Pair, amount: Amount) -> PutReply
+    ensures reply { result ≡ put_reply Heard (held_in holds.old pair.card pair.reference) (book_assents accounts.now holds.old pair.card pair.reference amount) amount }
+    ensures rows { holds.new ≡ holds_after accounts.now holds.old pair.card pair.reference amount }
 {
-    if amount <= held_in(holds, card, reference)
-        || assents(accounts, holds, card, reference, amount)
-    {
-        write(holds, card, reference, amount);
+    if amount <= held_in(holds, pair) || assents(accounts, holds, pair, amount) {
+        write(holds, pair, amount);
         PutReply::Done
     } else {
         PutReply::Refused
@@ -215,11 +199,11 @@ impl<'a, 'h> AccountBook<'a, 'h> {
         AccountBook { accounts, holds }
     }
 
-    /// What is held for the card under the reference.
-    pub fn held(&self, card: Card, reference: Reference) -> Amount
-        ensures { result ≡ book_held self.now card reference }
+    /// What is held for the pair.
+    pub fn held(&self, pair: Pair) -> Amount
+        ensures { result ≡ book_held self.now pair.card pair.reference }
     {
-        held_in(self.holds, card, reference)
+        held_in(self.holds, pair)
     }
 
     pub fn holds(&self) -> &[Hold]
@@ -238,18 +222,18 @@ impl Host for AccountBook<'_, '_> {
 
     ghost read_fate = { λ _. heard_reads };
 
-    fn put(&mut self, card: Card, reference: Reference, amount: Amount) -> PutReply
-        ensures means { PutMeans heard_puts (book_held self.old) (book_assent self.old) (book_held self.new) card reference amount result }
-        ensures rows { self.new.holds.now ≡ holds_after self.old.accounts.now self.old.holds.now card reference amount }
+    fn put(&mut self, pair: Pair, amount: Amount) -> PutReply
+        ensures means { PutMeans heard_puts (book_held self.old) (book_assent self.old) (book_held self.new) pair.card pair.reference amount result }
+        ensures rows { self.new.holds.now ≡ holds_after self.old.accounts.now self.old.holds.now pair.card pair.reference amount }
         ensures accounts { self.new.accounts ≡ self.old.accounts }
     {
-        put_hold(self.accounts, self.holds, card, reference, amount)
+        put_hold(self.accounts, self.holds, pair, amount)
     }
 
-    fn read(&mut self, card: Card, reference: Reference) -> ReadReply
-        ensures means { ReadMeans heard_reads (book_held self.old) (book_held self.new) card reference result }
+    fn read(&mut self, pair: Pair) -> ReadReply
+        ensures means { ReadMeans heard_reads (book_held self.old) (book_held self.new) pair.card pair.reference result }
         ensures same { self.new ≡ self.old }
     {
-        ReadReply::Holds(self.held(card, reference))
+        ReadReply::Holds(self.held(pair))
     }
 }

@@ -7,7 +7,7 @@ ghost use Rattle.host.specs.declared.Fate.TheVariants.{Heard};
 ghost use Rattle.hosts.specs.Drawer.{changed, drawer_assents, drawer_holds, held_under, is_voucher, raisable, unused, vouchers_after};
 ghost use Rattle.hosts.specs.DrawerHost.{drawer_assent, drawer_held};
 
-use host::{Amount, Card, Host, PutReply, ReadReply, Reference};
+use host::{Amount, Card, Host, Pair, PutReply, ReadReply, Reference};
 use rows::{Keyed, find, search};
 
 #[derive(Clone, Copy)]
@@ -77,47 +77,36 @@ impl Keyed for Voucher {
     }
 }
 
-/// What is held for the card under the reference, 0 for none.
-fn held_by(vouchers: &[Voucher], card: Card, reference: Reference) -> Amount
-    ensures { result ≡ drawer_holds vouchers.now card reference }
+/// What is held for the pair, 0 for none.
+fn held_by(vouchers: &[Voucher], pair: Pair) -> Amount
+    ensures { result ≡ drawer_holds vouchers.now pair.card pair.reference }
 {
-    match find(vouchers, &card) {
-        Some(voucher) => voucher.held_under(reference),
-        None => 0,
-    }
+    find(vouchers, &pair.card).map_or(0, |voucher| voucher.held_under(pair.reference))
 }
 
-/// Whether the drawer would raise a hold of the card under the reference to the amount.
-fn assents(vouchers: &[Voucher], card: Card, reference: Reference, amount: Amount) -> bool
-    ensures { result ≡ drawer_assents vouchers.now card reference amount }
+/// Whether the drawer would raise a hold of the pair to the amount.
+fn assents(vouchers: &[Voucher], pair: Pair, amount: Amount) -> bool
+    ensures { result ≡ drawer_assents vouchers.now pair.card pair.reference amount }
 {
-    match find(vouchers, &card) {
-        Some(voucher) => voucher.raisable(reference, amount),
-        None => false,
-    }
+    find(vouchers, &pair.card).is_some_and(|voucher| voucher.raisable(pair.reference, amount))
 }
 
 /// Updates the first voucher with the card where it lies.
-fn change_voucher(vouchers: &mut [Voucher], card: Card, reference: Reference, amount: Amount)
-    ensures { vouchers.new ≡ update_first (is_voucher card) (changed reference amount) vouchers.old }
+fn change_voucher(vouchers: &mut [Voucher], pair: Pair, amount: Amount)
+    ensures { vouchers.new ≡ update_first (is_voucher pair.card) (changed pair.reference amount) vouchers.old }
 {
-    if let Some(place) = search(vouchers, &card) {
-        vouchers[place] = vouchers[place].changed(reference, amount);
+    if let Some(place) = search(vouchers, &pair.card) {
+        vouchers[place] = vouchers[place].changed(pair.reference, amount);
     }
 }
 
 /// A put that is heard: done where it is no raise or has assent, and refused otherwise.
-fn put_voucher(
-    vouchers: &mut [Voucher],
-    card: Card,
-    reference: Reference,
-    amount: Amount,
-) -> PutReply
-    ensures reply { result ≡ put_reply Heard (drawer_holds vouchers.old card reference) (drawer_assents vouchers.old card reference amount) amount }
-    ensures rows { vouchers.new ≡ vouchers_after vouchers.old card reference amount }
+fn put_voucher(vouchers: &mut [Voucher], pair: Pair, amount: Amount) -> PutReply
+    ensures reply { result ≡ put_reply Heard (drawer_holds vouchers.old pair.card pair.reference) (drawer_assents vouchers.old pair.card pair.reference amount) amount }
+    ensures rows { vouchers.new ≡ vouchers_after vouchers.old pair.card pair.reference amount }
 {
-    if amount <= held_by(vouchers, card, reference) || assents(vouchers, card, reference, amount) {
-        change_voucher(vouchers, card, reference, amount);
+    if amount <= held_by(vouchers, pair) || assents(vouchers, pair, amount) {
+        change_voucher(vouchers, pair, amount);
         PutReply::Done
     } else {
         PutReply::Refused
@@ -150,11 +139,11 @@ impl<'v> VoucherDrawer<'v> {
         VoucherDrawer { vouchers }
     }
 
-    /// What is held for the card under the reference.
-    pub fn held(&self, card: Card, reference: Reference) -> Amount
-        ensures { result ≡ drawer_held self.now card reference }
+    /// What is held for the pair.
+    pub fn held(&self, pair: Pair) -> Amount
+        ensures { result ≡ drawer_held self.now pair.card pair.reference }
     {
-        held_by(self.vouchers, card, reference)
+        held_by(self.vouchers, pair)
     }
 
     pub fn vouchers(&self) -> &[Voucher]
@@ -173,17 +162,17 @@ impl Host for VoucherDrawer<'_> {
 
     ghost read_fate = { λ _. heard_reads };
 
-    fn put(&mut self, card: Card, reference: Reference, amount: Amount) -> PutReply
-        ensures means { PutMeans heard_puts (drawer_held self.old) (drawer_assent self.old) (drawer_held self.new) card reference amount result }
-        ensures rows { self.new.vouchers.now ≡ vouchers_after self.old.vouchers.now card reference amount }
+    fn put(&mut self, pair: Pair, amount: Amount) -> PutReply
+        ensures means { PutMeans heard_puts (drawer_held self.old) (drawer_assent self.old) (drawer_held self.new) pair.card pair.reference amount result }
+        ensures rows { self.new.vouchers.now ≡ vouchers_after self.old.vouchers.now pair.card pair.reference amount }
     {
-        put_voucher(self.vouchers, card, reference, amount)
+        put_voucher(self.vouchers, pair, amount)
     }
 
-    fn read(&mut self, card: Card, reference: Reference) -> ReadReply
-        ensures means { ReadMeans heard_reads (drawer_held self.old) (drawer_held self.new) card reference result }
+    fn read(&mut self, pair: Pair) -> ReadReply
+        ensures means { ReadMeans heard_reads (drawer_held self.old) (drawer_held self.new) pair.card pair.reference result }
         ensures same { self.new ≡ self.old }
     {
-        ReadReply::Holds(self.held(card, reference))
+        ReadReply::Holds(self.held(pair))
     }
 }

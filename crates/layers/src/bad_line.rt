@@ -5,7 +5,7 @@ ghost use Rattle.host.specs.Parts.{NothingWhere};
 ghost use Rattle.host.specs.declared.Fate.TheVariants.{LostGoing};
 ghost use Rattle.layers.specs.Line.{line_assent, line_held, line_put_fate, line_read_fate, mark_fate, marks_left, most_marks, next_fate, spent};
 
-use host::{Amount, Card, Fate, Host, PutReply, ReadReply, Reference};
+use host::{Amount, Fate, Host, Pair, PutReply, ReadReply};
 
 /// The most marks that a line takes.
 pub const MARKS: usize = 64;
@@ -90,31 +90,31 @@ impl<H: Host> Host for BadLine<H> {
 
     ghost read_fate = { line_read_fate H.Host.read_fate };
 
-    fn put(&mut self, card: Card, reference: Reference, amount: Amount) -> PutReply
-        ensures means { PutMeans (line_put_fate H.Host.put_fate self.old) (line_held H.Host.held self.old) (line_assent H.Host.assent self.old) (line_held H.Host.held self.new) card reference amount result }
+    fn put(&mut self, pair: Pair, amount: Amount) -> PutReply
+        ensures means { PutMeans (line_put_fate H.Host.put_fate self.old) (line_held H.Host.held self.old) (line_assent H.Host.assent self.old) (line_held H.Host.held self.new) pair.card pair.reference amount result }
         ensures marks { marks_left self.new ≡ spent (marks_left self.old) }
         ensures uncalled { next_fate (marks_left self.old) ≡ LostGoing → self.new.below ≡ self.old.below }
     {
         match self.spend() {
-            Fate::Heard => self.below.put(card, reference, amount),
+            Fate::Heard => self.below.put(pair, amount),
             Fate::LostGoing => PutReply::Silent,
             Fate::LostReturning => {
-                let _ = self.below.put(card, reference, amount);
+                let _ = self.below.put(pair, amount);
                 PutReply::Silent
             }
         }
     }
 
-    fn read(&mut self, card: Card, reference: Reference) -> ReadReply
-        ensures means { ReadMeans (line_read_fate H.Host.read_fate self.old) (line_held H.Host.held self.old) (line_held H.Host.held self.new) card reference result }
+    fn read(&mut self, pair: Pair) -> ReadReply
+        ensures means { ReadMeans (line_read_fate H.Host.read_fate self.old) (line_held H.Host.held self.old) (line_held H.Host.held self.new) pair.card pair.reference result }
         ensures marks { marks_left self.new ≡ spent (marks_left self.old) }
         ensures uncalled { next_fate (marks_left self.old) ≡ LostGoing → self.new.below ≡ self.old.below }
     {
         match self.spend() {
-            Fate::Heard => self.below.read(card, reference),
+            Fate::Heard => self.below.read(pair),
             Fate::LostGoing => ReadReply::Silent,
             Fate::LostReturning => {
-                let _ = self.below.read(card, reference);
+                let _ = self.below.read(pair);
                 ReadReply::Silent
             }
         }

@@ -5,7 +5,7 @@ ghost use Rattle.host.specs.Parts.{NothingWhereBoth};
 ghost use Rattle.layers.specs.Digits.{LeadingSix, leading_six};
 ghost use Rattle.layers.specs.Split.{OtherSame, is_left, split_assent, split_held, split_put_fate, split_read_fate};
 
-use host::{Amount, Card, Host, PutReply, ReadReply, Reference};
+use host::{Amount, Card, Host, Pair, PutReply, ReadReply};
 
 /// The least number of more than six digits.
 const SEVEN_DIGITS: Card = 1_000_000;
@@ -78,25 +78,25 @@ impl<L: Host, R: Host> Host for RangeSplit<L, R> {
 
     ghost read_fate = { split_read_fate L.Host.read_fate R.Host.read_fate };
 
-    fn put(&mut self, card: Card, reference: Reference, amount: Amount) -> PutReply
-        ensures means { PutMeans (split_put_fate L.Host.put_fate R.Host.put_fate self.old) (split_held L.Host.held R.Host.held self.old) (split_assent L.Host.assent R.Host.assent self.old) (split_held L.Host.held R.Host.held self.new) card reference amount result }
-        ensures other { OtherSame self.old self.new card }
+    fn put(&mut self, pair: Pair, amount: Amount) -> PutReply
+        ensures means { PutMeans (split_put_fate L.Host.put_fate R.Host.put_fate self.old) (split_held L.Host.held R.Host.held self.old) (split_assent L.Host.assent R.Host.assent self.old) (split_held L.Host.held R.Host.held self.new) pair.card pair.reference amount result }
+        ensures other { OtherSame self.old self.new pair.card }
     {
-        if self.is_left(card) {
-            self.left.put(card, reference, amount)
+        if self.is_left(pair.card) {
+            self.left.put(pair, amount)
         } else {
-            self.right.put(card, reference, amount)
+            self.right.put(pair, amount)
         }
     }
 
-    fn read(&mut self, card: Card, reference: Reference) -> ReadReply
-        ensures means { ReadMeans (split_read_fate L.Host.read_fate R.Host.read_fate self.old) (split_held L.Host.held R.Host.held self.old) (split_held L.Host.held R.Host.held self.new) card reference result }
-        ensures other { OtherSame self.old self.new card }
+    fn read(&mut self, pair: Pair) -> ReadReply
+        ensures means { ReadMeans (split_read_fate L.Host.read_fate R.Host.read_fate self.old) (split_held L.Host.held R.Host.held self.old) (split_held L.Host.held R.Host.held self.new) pair.card pair.reference result }
+        ensures other { OtherSame self.old self.new pair.card }
     {
-        if self.is_left(card) {
-            self.left.read(card, reference)
+        if self.is_left(pair.card) {
+            self.left.read(pair)
         } else {
-            self.right.read(card, reference)
+            self.right.read(pair)
         }
     }
 }

@@ -8,7 +8,7 @@ ghost use Rattle.hosts.specs.DrawerHost.{drawer_held};
 ghost use Rattle.layers.specs.Line.{line_held};
 ghost use Rattle.layers.specs.Split.{split_held};
 
-use host::{Amount, Card, Host, Reference};
+use host::{Amount, Card, Host, Pair, Reference};
 use hosts::account_book::{Account, AccountBook, Hold};
 use hosts::voucher_drawer::{Voucher, VoucherDrawer};
 use layers::bad_line::BadLine;
@@ -84,13 +84,13 @@ const CALLS: [Call; 30] = [
 ];
 
 /// What is held now, without a call.
-fn held(bank: &Bank<'_, '_, '_>, card: Card, reference: Reference) -> Amount
-    ensures { result ≡ split_held (line_held book_held) drawer_held bank.now card reference }
+fn held(bank: &Bank<'_, '_, '_>, pair: Pair) -> Amount
+    ensures { result ≡ split_held (line_held book_held) drawer_held bank.now pair.card pair.reference }
 {
-    if bank.is_left(card) {
-        bank.left().below().held(card, reference)
+    if bank.is_left(pair.card) {
+        bank.left().below().held(pair)
     } else {
-        bank.right().held(card, reference)
+        bank.right().held(pair)
     }
 }
 
@@ -98,13 +98,15 @@ fn held(bank: &Bank<'_, '_, '_>, card: Card, reference: Reference) -> Amount
 fn show(rt: &HostRuntime, bank: &mut Bank<'_, '_, '_>, call: Call) -> io::Result<()> {
     match call {
         Put(card, reference, amount) => {
-            let reply = bank.put(card, reference, amount);
-            let after = held(bank, card, reference);
+            let pair = Pair { card, reference };
+            let reply = bank.put(pair, amount);
+            let after = held(bank, pair);
             println!(rt; "put {card} {reference} {amount}: {reply}, held {after}")
         }
         Read(card, reference) => {
-            let reply = bank.read(card, reference);
-            let after = held(bank, card, reference);
+            let pair = Pair { card, reference };
+            let reply = bank.read(pair);
+            let after = held(bank, pair);
             println!(rt; "read {card} {reference}: {reply}, held {after}")
         }
     }

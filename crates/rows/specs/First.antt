@@ -1,7 +1,7 @@
 -- The first row of a list that passes a test: its place, the row itself, the list with it rewritten, and both halves in full.
 use Rattle.std.specs.Prelude.{◌≡◌, ℕ, suc, ◌<◌, Bool, true, false, cond, List, [], ◌∷◌, length, Some, None, Option, slice_index_or}
 use Rattle.std.specs.Option.{option_map}
-use Rattle.std.specs.List.{HoldsAt, AllWithin}
+use Rattle.std.specs.List.{HoldsAt, AllWithin, find}
 
 -- where it stands
 abbrev pub first_with : {R : Type 0} → (R → Bool) → List R → Option ℕ
@@ -10,8 +10,7 @@ first_with test (x ∷ xs) = cond (test x) (Some 0) (option_map suc (first_with 
 
 -- the row that stands there
 abbrev pub row_with : {R : Type 0} → (R → Bool) → List R → Option R
-row_with test [] = None
-row_with test (x ∷ xs) = cond (test x) (Some x) (row_with test xs)
+row_with test rows = find test rows
 
 -- the list with that row rewritten
 abbrev pub update_first : {R : Type 0} → (R → Bool) → (R → R) → List R → List R

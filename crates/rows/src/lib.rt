@@ -15,33 +15,18 @@ pub trait Keyed {
         ensures { result ≡ same self.now key.now };
 }
 
-// Goes through the rows as far as the first that has the key.
-fn scan<R: Keyed>(rows: &[R], key: &R::Key) -> Option<usize>
-    ensures { FirstOrNone (λ row. R.same row key.now) rows.now result }
-{
-    for (place, row) in rows.iter().enumerate() {
-        if row.has(key) {
-            return Some(place);
-        }
-    }
-    None
-}
-
 /// The place of the first row that has the key, or nothing where no row has it.
 pub fn search<R: Keyed>(rows: &[R], key: &R::Key) -> Option<usize>
     ensures value { result ≡ first_with (λ row. R.same row key.now) rows.now }
     ensures cases { FirstOrNone (λ row. R.same row key.now) rows.now result }
     ensures row { Stands (λ row. R.same row key.now) rows.now result }
 {
-    scan(rows, key)
+    rows.iter().position(|row| row.has(key))
 }
 
 /// A copy of the first row that has the key, or nothing where no row has it.
 pub fn find<R: Keyed + Copy>(rows: &[R], key: &R::Key) -> Option<R>
     ensures { result ≡ row_with (λ row. R.same row key.now) rows.now }
 {
-    match search(rows, key) {
-        Some(place) => Some(rows[place]),
-        None => None,
-    }
+    rows.iter().copied().find(|row| row.has(key))
 }
