@@ -2,21 +2,21 @@
 use Rattle.std.proofs.Common.{◌≡◌, ℕ, zero, suc, ◌-◌, ◌<◌, ◌≤◌, Bool, true, false, cond, not, ◌&&◌, eqb, ltb, List, [], ◌∷◌, is_some, Some, None, Option, sym, refl, ap, ◌∙◌, subst, arith}
 use Rattle.std.proofs.lemmas.Bool.{eqb-true, leb-false, ltb-false, not-false, or_parts, true≢false}
 use Rattle.wire.specs.declared.message.Fields.{Fields}
-use Rattle.rules.specs.Checks.{Check, among, book_checks, refusal}
+use Rattle.rules.specs.Checks.{Check, among, book_checks, refusal, refuses}
 use Rattle.rules.specs.Ledger.{Ledger, batch_row, facts_of, purchase_of, purchase_row}
 
 -- the row at this place of a table, and the rows after it
 abbrev cause_at : ℕ → ℕ → List Check → Bool
 cause_at k n [] = false
-cause_at k zero (row ∷ rows) = among k row.kinds && row.cause
+cause_at k zero (row ∷ rows) = refuses k row
 cause_at k (suc n) (row ∷ rows) = cause_at k n rows
 
 -- where nothing refuses, no row applies
 none_applies : (k : ℕ) (rows : List Check) → refusal k rows ≡ None → (n : ℕ) → cause_at k n rows ≡ false
 none_applies k [] none n = refl
-none_applies k (row ∷ rows) none n = at_row (among k row.kinds && row.cause) refl none n (none_applies k rows)
+none_applies k (row ∷ rows) none n = at_row (refuses k row) refl none n (none_applies k rows)
   where
-    at_row : (t : Bool) → (among k row.kinds && row.cause) ≡ t → cond t (Some row.outcome) (refusal k rows) ≡ None → (n : ℕ)
+    at_row : (t : Bool) → refuses k row ≡ t → cond t (Some row.outcome) (refusal k rows) ≡ None → (n : ℕ)
         → (refusal k rows ≡ None → (n : ℕ) → cause_at k n rows ≡ false) → cause_at k n (row ∷ rows) ≡ false
     at_row true is refused n later = cc
     at_row false is rest zero later = is

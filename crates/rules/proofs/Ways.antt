@@ -5,7 +5,7 @@ use Rattle.fields.specs.Kind.{is_kind, kind_number}
 use Rattle.fields.specs.declared.kind.Kind.{Kind}
 use Rattle.fields.specs.declared.kind.Kind.TheVariants.{AuthReq, AuthRevReq, BatchClose, BatchOpen, CapReq, CapRevReq, CredReq, CredRevReq, Inquiry}
 use Rattle.wire.specs.declared.message.Fields.{Fields}
-use Rattle.rules.specs.Checks.{Check, among, book_checks, refusal, used_otherwise}
+use Rattle.rules.specs.Checks.{Check, among, book_checks, refusal, refuses, used_otherwise}
 use Rattle.rules.specs.Ledger.{Ledger, facts_of, remembered_of}
 use Rattle.rules.specs.Outcome.{outcome_code}
 use Rattle.rules.specs.Rules.{Call, Reply, answer_by, answer_of, books_after, books_by, call_by, call_of, card_of, choose, is_silent, no_call, put_of, read, reference_of, remembers, repeat_in, way}
@@ -113,7 +113,7 @@ refused_within : (k : ℕ) (rows : List Check) → all_within rows ≡ true → 
 refused_within k [] all o is = cc
 refused_within k (row ∷ rows) all o is =
     let both = and_parts (within row.outcome) (all_within rows) all in
-    at_row (among k row.kinds && row.cause) is both.0 (refused_within k rows both.1 o)
+    at_row (refuses k row) is both.0 (refused_within k rows both.1 o)
   where
     at_row : (t : Bool) → cond t (Some row.outcome) (refusal k rows) ≡ Some o → within row.outcome ≡ true → (refusal k rows ≡ Some o → within o ≡ true) → within o ≡ true
     at_row true here fits later = let same : row.outcome ≡ o = cc in ap within (sym same) ∙ fits

@@ -1,5 +1,5 @@
 -- The checks of performing, as a table of rows: number, kinds, cause. The first row that applies refuses the message.
-use Rattle.std.specs.Prelude.{◌≡◌, ℕ, ◌-◌, Bool, false, cond, not, ◌&&◌, ◌||◌, List, [], ◌∷◌, is_some, Some, None, Option, ◌==◌, nat_le, nat_lt}
+use Rattle.std.specs.Prelude.{◌≡◌, ℕ, ◌-◌, Bool, false, cond, not, ◌&&◌, ◌||◌, List, map, [], ◌∷◌, is_some, Some, None, Option, ◌==◌, nat_le, nat_lt}
 use Rattle.std.specs.Option.{unwrap_or}
 use Rattle.wire.specs.declared.message.Fields.{Fields}
 use Rattle.rules.specs.Ledger.{no_purchase, no_batch}
@@ -8,6 +8,8 @@ use Rattle.rules.specs.declared.facts.Facts.{Facts}
 use Rattle.rules.specs.Outcome.{outcome_code}
 use Rattle.rules.specs.declared.outcome.Outcome.{Outcome}
 use Rattle.rules.specs.declared.outcome.Outcome.TheVariants.{RequestNumberUsed, MemoryFull, UnknownXid, PiAuthMismatch, InDoubt, PiPreviouslyUsed, PurchasesFull, NothingAuthorised, DuplicateRequest, NothingCaptured, AmountOutOfBounds, BatchUnknown, BatchClosed, NotReversible, BatchNumberUsed, BatchesFull}
+use Rattle.rules.specs.declared.checks.Row.{Row}
+use Rattle.fields.specs.Kind.{kind_number}
 use Rattle.rules.specs.declared.remembered.Remembered.{Remembered}
 
 -- how many rows the books have room for
@@ -26,17 +28,25 @@ pub record Check : Type 0 where
   pub kinds : List ℕ
   pub cause : Bool
 
-abbrev check : ℕ → Outcome → List ℕ → Bool → Check
+abbrev pub check : ℕ → Outcome → List ℕ → Bool → Check
 check number outcome kinds cause = record { number = number; outcome = outcome; kinds = kinds; cause = cause }
 
 abbrev pub among : ℕ → List ℕ → Bool
 among k [] = false
 among k (x ∷ xs) = k == x || among k xs
 
+-- a row of the code's table
+abbrev pub row_of : Row → Check
+row_of row = check (outcome_code row.outcome) row.outcome (map kind_number row.kinds.now) row.cause
+
+-- whether a row refuses a message of a kind
+abbrev pub refuses : ℕ → Check → Bool
+refuses k row = among k row.kinds && row.cause
+
 -- the first row whose kinds have the message's kind and whose cause holds
 abbrev pub refusal : ℕ → List Check → Option Outcome
 refusal k [] = None
-refusal k (row ∷ rows) = cond (among k row.kinds && row.cause) (Some row.outcome) (refusal k rows)
+refusal k (row ∷ rows) = cond (refuses k row) (Some row.outcome) (refusal k rows)
 
 -- the course and request number are remembered with other fields
 abbrev pub used_otherwise : Option Remembered → Fields → Bool

@@ -1,6 +1,5 @@
 -- The worked examples: a meeting over an account book, and two cases of a bad line over it, by the rules and the rows.
 use Rattle.std.specs.Prelude.{◌≡◌, ℕ, List, [], ◌∷◌, ◌++◌, replicate, Some, None, Ok, Err, Option, Result}
-use Rattle.host.specs.Meaning.{put_reply, read_reply}
 use Rattle.host.specs.declared.Fate.{Fate}
 use Rattle.host.specs.declared.Fate.TheVariants.{Heard, LostGoing, LostReturning}
 use Rattle.hosts.specs.Book.{held_in, book_assents, holds_after, free_hold}
@@ -12,7 +11,7 @@ use Rattle.wire.specs.Bytes.{bytes_of}
 use Rattle.wire.specs.declared.message.Fields.{Fields}
 use Rattle.rules.specs.Ledger.{Ledger, no_ledger}
 use Rattle.rules.specs.Outcome.{outcome_code}
-use Rattle.rules.specs.Rules.{Call, no_call, put, read, Reply, uncalled, on_put, on_read, call_of, answer_of, books_after}
+use Rattle.rules.specs.Rules.{Call, no_call, put, read, Reply, reply_of, call_of, answer_of, books_after}
 use Rattle.rules.specs.declared.outcome.Performed.{Performed}
 
 -- the course is 9, the XIDs are twenty 01 and twenty 02, the batch is 7
@@ -43,9 +42,7 @@ abbrev fate : World → Fate
 fate w = line_fate (next_fate w.marks) Heard
 
 abbrev reply_to : World → Call → Reply
-reply_to w no_call = uncalled
-reply_to w (put c f a) = on_put (put_reply (fate w) (held_in w.holds c f) (book_assents accounts w.holds c f a) a)
-reply_to w (read c f) = on_read (read_reply (fate w) (held_in w.holds c f))
+reply_to w call = reply_of (λ c f a. fate w) (λ c f. fate w) (held_in w.holds) (book_assents accounts w.holds) call
 
 abbrev reaches : Fate → List Hold → List Hold → List Hold
 reaches Heard holds after = after

@@ -72,9 +72,7 @@ through_call l m =
     cond (among m.kind (1 ∷ 2 ∷ [])) (put_of l m) (cond (m.kind == 9) (read (card_of l m) (reference_of l m)) no_call)
 
 abbrev pub call_of : Ledger → Fields → Call
-call_of l m =
-    call_by (way l m) (put_of l m)
-    (cond (among m.kind (1 ∷ 2 ∷ [])) (put_of l m) (cond (m.kind == 9) (read (card_of l m) (reference_of l m)) no_call))
+call_of l m = call_by (way l m) (put_of l m) (through_call l m)
 
 -- what the host replied, if it was called
 pub data Reply : Type 0 where
@@ -213,8 +211,7 @@ abbrev pub noted : Fields → Performed → Ledger → Ledger
 noted m answer l = record { purchases = l.purchases; answers = l.answers ++ (record { fields = m; answer = answer }) ∷ []; batches = l.batches }
 
 abbrev pub remembered : Fields → Performed → Ledger → Ledger
-remembered m answer l =
-    cond (remembers m answer.outcome) (record { purchases = l.purchases; answers = l.answers ++ (record { fields = m; answer = answer }) ∷ []; batches = l.batches }) l
+remembered m answer l = cond (remembers m answer.outcome) (noted m answer l) l
 
 -- a new answer in the place of a remembered one
 abbrev pub replaced : Fields → Performed → Ledger → Ledger

@@ -1,15 +1,16 @@
-// The checks from 9 on, kind by kind, in the order of the table.
-ghost use Rattle.std.specs.Prelude.{◌≡◌, ◌-◌, not, ◌&&◌, is_some, ◌==◌};
+// The checks from 9 on: the table of rows that specs/Checks.antt has, in its order.
+ghost use Rattle.std.specs.Prelude.{◌≡◌, ◌-◌, map};
 ghost use Rattle.std.specs.Option.{unwrap_or};
 ghost use Rattle.fields.specs.Kind.{kind_number};
-ghost use Rattle.rules.specs.Checks.{book_checks, refusal};
+ghost use Rattle.rules.specs.Checks.{book_checks, check, refusal, refuses, row_of};
+ghost use Rattle.rules.specs.Outcome.{outcome_code};
 ghost use Rattle.rules.specs.Ledger.{no_batch, no_purchase};
 
 use crate::batch::Batch;
 use crate::facts::{ANSWERS, BATCHES, Facts, PURCHASES};
-use crate::outcome::Outcome;
+use crate::outcome::Outcome::{self, *};
 use crate::purchase::Purchase;
-use fields::kind::Kind;
+use fields::kind::Kind::{self, *};
 use wire::message::Fields;
 
 // What stands for a purchase or a batch that is not there.
@@ -43,133 +44,6 @@ fn batch_or_none(found: Option<Batch>) -> Batch
     found.unwrap_or(NO_BATCH)
 }
 
-// A known purchase is another course's.
-fn is_elsewhere(f: &Facts, p: &Purchase, m: &Fields) -> bool
-    ensures { result ≡ (is_some f.now.purchase && not (p.now.course == m.now.course)) }
-{
-    f.purchase.is_some() && p.course != m.course
-}
-
-fn authorisation(f: &Facts, m: &Fields) -> Option<Outcome>
-    ensures { result ≡ refusal 1 (book_checks f.now m.now) }
-{
-    let p = purchase_or_none(f.purchase);
-    if f.answers >= ANSWERS {
-        return Some(Outcome::MemoryFull);
-    }
-    if is_elsewhere(f, &p, m) {
-        return Some(Outcome::PiAuthMismatch);
-    }
-    if f.purchase.is_some() && p.card != m.card {
-        return Some(Outcome::PiAuthMismatch);
-    }
-    if p.doubt.is_some() {
-        return Some(Outcome::InDoubt);
-    }
-    if p.authorised > 0 {
-        return Some(Outcome::PiPreviouslyUsed);
-    }
-    if f.purchases >= PURCHASES && f.purchase.is_none() {
-        return Some(Outcome::PurchasesFull);
-    }
-    None
-}
-
-fn authorisation_reversal(f: &Facts, m: &Fields) -> Option<Outcome>
-    ensures { result ≡ refusal 2 (book_checks f.now m.now) }
-{
-    let p = purchase_or_none(f.purchase);
-    if f.answers >= ANSWERS {
-        return Some(Outcome::MemoryFull);
-    }
-    if f.purchase.is_none() {
-        return Some(Outcome::UnknownXid);
-    }
-    if is_elsewhere(f, &p, m) {
-        return Some(Outcome::PiAuthMismatch);
-    }
-    if p.doubt.is_some() {
-        return Some(Outcome::InDoubt);
-    }
-    if p.authorised == 0 {
-        return Some(Outcome::NothingAuthorised);
-    }
-    if p.captured > 0 {
-        return Some(Outcome::DuplicateRequest);
-    }
-    if m.amount >= p.authorised {
-        return Some(Outcome::AmountOutOfBounds);
-    }
-    None
-}
-
-fn capture(f: &Facts, m: &Fields) -> Option<Outcome>
-    ensures { result ≡ refusal 3 (book_checks f.now m.now) }
-{
-    let p = purchase_or_none(f.purchase);
-    let b = batch_or_none(f.batch);
-    if f.answers >= ANSWERS {
-        return Some(Outcome::MemoryFull);
-    }
-    if f.purchase.is_none() {
-        return Some(Outcome::UnknownXid);
-    }
-    if is_elsewhere(f, &p, m) {
-        return Some(Outcome::PiAuthMismatch);
-    }
-    if p.doubt.is_some() {
-        return Some(Outcome::InDoubt);
-    }
-    if p.authorised == 0 {
-        return Some(Outcome::NothingAuthorised);
-    }
-    if p.captured > 0 {
-        return Some(Outcome::DuplicateRequest);
-    }
-    if m.amount > p.authorised {
-        return Some(Outcome::AmountOutOfBounds);
-    }
-    if f.batch.is_none() {
-        return Some(Outcome::BatchUnknown);
-    }
-    if b.closed {
-        return Some(Outcome::BatchClosed);
-    }
-    None
-}
-
-fn capture_reversal(f: &Facts, m: &Fields) -> Option<Outcome>
-    ensures { result ≡ refusal 4 (book_checks f.now m.now) }
-{
-    let p = purchase_or_none(f.purchase);
-    let b = batch_or_none(f.batch);
-    if f.answers >= ANSWERS {
-        return Some(Outcome::MemoryFull);
-    }
-    if f.purchase.is_none() {
-        return Some(Outcome::UnknownXid);
-    }
-    if is_elsewhere(f, &p, m) {
-        return Some(Outcome::PiAuthMismatch);
-    }
-    if p.doubt.is_some() {
-        return Some(Outcome::InDoubt);
-    }
-    if p.captured == 0 {
-        return Some(Outcome::NothingCaptured);
-    }
-    if f.batch.is_none() {
-        return Some(Outcome::BatchUnknown);
-    }
-    if b.closed {
-        return Some(Outcome::BatchClosed);
-    }
-    if p.batch != m.batch || p.credited > 0 {
-        return Some(Outcome::NotReversible);
-    }
-    None
-}
-
 // What of the capture is not credited yet.
 pub fn uncredited(p: &Purchase) -> u64
     ensures { result ≡ p.now.captured - p.now.credited }
@@ -177,127 +51,97 @@ pub fn uncredited(p: &Purchase) -> u64
     p.captured.saturating_sub(p.credited)
 }
 
-fn credit(f: &Facts, m: &Fields) -> Option<Outcome>
-    ensures { result ≡ refusal 5 (book_checks f.now m.now) }
+// The kinds whose answers are remembered.
+const REMEMBERED: &[Kind] = &[
+    AuthReq, AuthRevReq, CapReq, CapRevReq, CredReq, CredRevReq, BatchOpen, BatchClose,
+];
+
+// The kinds that name a purchase, and those of them that need it known.
+const NAMING: &[Kind] = &[
+    AuthReq, AuthRevReq, CapReq, CapRevReq, CredReq, CredRevReq, Inquiry,
+];
+
+const KNOWING: &[Kind] = &[AuthRevReq, CapReq, CapRevReq, CredReq, CredRevReq, Inquiry];
+
+// The kinds that move a purchase, and those that need one captured.
+const MOVING: &[Kind] = &[AuthReq, AuthRevReq, CapReq, CapRevReq, CredReq, CredRevReq];
+
+const AFTER_CAPTURE: &[Kind] = &[CapRevReq, CredReq, CredRevReq];
+
+// The kinds that need an open batch.
+const BOOKING: &[Kind] = &[CapReq, CapRevReq, CredReq, CredRevReq, BatchClose];
+
+// A row of the table: a message of these kinds is refused with this outcome where the cause holds.
+#[derive(Clone, Copy)]
+struct Row {
+    outcome: Outcome,
+    kinds: &'static [Kind],
+    cause: bool,
+}
+
+impl Row {
+    fn refuses(&self, kind: Kind) -> bool
+        ensures { result ≡ refuses (kind_number kind) (row_of self.now) }
+    {
+        self.kinds.contains(&kind) && self.cause
+    }
+}
+
+// A row, in the order of the table's columns.
+fn check(outcome: Outcome, kinds: &'static [Kind], cause: bool) -> Row
+    ensures { row_of result ≡ check (outcome_code outcome) outcome (map kind_number kinds.now) cause }
+{
+    Row {
+        outcome,
+        kinds,
+        cause,
+    }
+}
+
+// The table, row by row as the rules state it.
+fn book_checks(f: &Facts, m: &Fields) -> [Row; 19]
+    ensures { map row_of result ≡ book_checks f.now m.now }
 {
     let p = purchase_or_none(f.purchase);
     let b = batch_or_none(f.batch);
-    if f.answers >= ANSWERS {
-        return Some(Outcome::MemoryFull);
-    }
-    if f.purchase.is_none() {
-        return Some(Outcome::UnknownXid);
-    }
-    if is_elsewhere(f, &p, m) {
-        return Some(Outcome::PiAuthMismatch);
-    }
-    if p.doubt.is_some() {
-        return Some(Outcome::InDoubt);
-    }
-    if p.captured == 0 {
-        return Some(Outcome::NothingCaptured);
-    }
-    if m.amount > uncredited(&p) {
-        return Some(Outcome::AmountOutOfBounds);
-    }
-    if f.batch.is_none() {
-        return Some(Outcome::BatchUnknown);
-    }
-    if b.closed {
-        return Some(Outcome::BatchClosed);
-    }
-    None
-}
-
-fn credit_reversal(f: &Facts, m: &Fields) -> Option<Outcome>
-    ensures { result ≡ refusal 6 (book_checks f.now m.now) }
-{
-    let p = purchase_or_none(f.purchase);
-    let b = batch_or_none(f.batch);
-    if f.answers >= ANSWERS {
-        return Some(Outcome::MemoryFull);
-    }
-    if f.purchase.is_none() {
-        return Some(Outcome::UnknownXid);
-    }
-    if is_elsewhere(f, &p, m) {
-        return Some(Outcome::PiAuthMismatch);
-    }
-    if p.doubt.is_some() {
-        return Some(Outcome::InDoubt);
-    }
-    if p.captured == 0 {
-        return Some(Outcome::NothingCaptured);
-    }
-    if m.amount > p.credited {
-        return Some(Outcome::AmountOutOfBounds);
-    }
-    if f.batch.is_none() {
-        return Some(Outcome::BatchUnknown);
-    }
-    if b.closed {
-        return Some(Outcome::BatchClosed);
-    }
-    None
-}
-
-fn batch_open(f: &Facts, m: &Fields) -> Option<Outcome>
-    ensures { result ≡ refusal 7 (book_checks f.now m.now) }
-{
-    if f.answers >= ANSWERS {
-        return Some(Outcome::MemoryFull);
-    }
-    if f.batch.is_some() {
-        return Some(Outcome::BatchNumberUsed);
-    }
-    if f.batches >= BATCHES {
-        return Some(Outcome::BatchesFull);
-    }
-    None
-}
-
-fn batch_close(f: &Facts, m: &Fields) -> Option<Outcome>
-    ensures { result ≡ refusal 8 (book_checks f.now m.now) }
-{
-    let b = batch_or_none(f.batch);
-    if f.answers >= ANSWERS {
-        return Some(Outcome::MemoryFull);
-    }
-    if f.batch.is_none() {
-        return Some(Outcome::BatchUnknown);
-    }
-    if b.closed {
-        return Some(Outcome::BatchClosed);
-    }
-    None
-}
-
-fn inquiry(f: &Facts, m: &Fields) -> Option<Outcome>
-    ensures { result ≡ refusal 9 (book_checks f.now m.now) }
-{
-    let p = purchase_or_none(f.purchase);
-    if f.purchase.is_none() {
-        return Some(Outcome::UnknownXid);
-    }
-    if is_elsewhere(f, &p, m) {
-        return Some(Outcome::PiAuthMismatch);
-    }
-    None
+    let known = f.purchase.is_some();
+    [
+        check(MemoryFull, REMEMBERED, f.answers >= ANSWERS),
+        check(UnknownXid, KNOWING, !known),
+        check(PiAuthMismatch, NAMING, known && p.course != m.course),
+        check(PiAuthMismatch, &[AuthReq], known && p.card != m.card),
+        check(InDoubt, MOVING, p.doubt.is_some()),
+        check(PiPreviouslyUsed, &[AuthReq], p.authorised > 0),
+        check(
+            PurchasesFull,
+            &[AuthReq],
+            f.purchases >= PURCHASES && !known,
+        ),
+        check(NothingAuthorised, &[AuthRevReq, CapReq], p.authorised == 0),
+        check(DuplicateRequest, &[AuthRevReq, CapReq], p.captured > 0),
+        check(NothingCaptured, AFTER_CAPTURE, p.captured == 0),
+        check(AmountOutOfBounds, &[AuthRevReq], m.amount >= p.authorised),
+        check(AmountOutOfBounds, &[CapReq], m.amount > p.authorised),
+        check(AmountOutOfBounds, &[CredReq], m.amount > uncredited(&p)),
+        check(AmountOutOfBounds, &[CredRevReq], m.amount > p.credited),
+        check(BatchUnknown, BOOKING, f.batch.is_none()),
+        check(BatchClosed, BOOKING, b.closed),
+        check(
+            NotReversible,
+            &[CapRevReq],
+            p.batch != m.batch || p.credited > 0,
+        ),
+        check(BatchNumberUsed, &[BatchOpen], f.batch.is_some()),
+        check(BatchesFull, &[BatchOpen], f.batches >= BATCHES),
+    ]
 }
 
 // The first check from 9 on that refuses a message of this kind.
 pub fn book_refusal(kind: Kind, f: &Facts, m: &Fields) -> Option<Outcome>
     ensures { result ≡ refusal (kind_number kind) (book_checks f.now m.now) }
 {
-    match kind {
-        Kind::AuthReq => authorisation(f, m),
-        Kind::AuthRevReq => authorisation_reversal(f, m),
-        Kind::CapReq => capture(f, m),
-        Kind::CapRevReq => capture_reversal(f, m),
-        Kind::CredReq => credit(f, m),
-        Kind::CredRevReq => credit_reversal(f, m),
-        Kind::BatchOpen => batch_open(f, m),
-        Kind::BatchClose => batch_close(f, m),
-        Kind::Inquiry => inquiry(f, m),
-    }
+    let rows = book_checks(f, m);
+    rows.iter()
+        .find(|row| row.refuses(kind))
+        .map(|row| row.outcome)
 }
