@@ -1,19 +1,26 @@
 //! The edges of the rules: for each a few messages, composed by the writer, and what each was answered.
 #![tactic(auto)]
 
-use anyhow::anyhow;
+ghost use Rattle.std.specs.Prelude.{◌+◌, ◌≤◌, length};
+ghost use Rattle.std.specs.Iterator.{IsFinite};
+
+use anyhow::{Context, anyhow};
 use fields::kind::Kind;
 use gateway::{Gateway, Handled};
 use host::Host;
 use hosts::account_book::{Account, AccountBook, Hold};
 use layers::bad_line::{BadLine, LOSES_ANSWER, LOSES_CALL};
+use std::alloc::Global;
 use wire::answer::FULL_LENGTH;
 use wire::message::{Fields, Xid};
 use wire::{STRIP, write};
 
 const CARD: u64 = 4_111_111_111_111_111;
 
-const BALANCE: u64 = 100_000;
+const ACCOUNTS: [Account; 1] = [Account {
+    card: CARD,
+    balance: 100_000,
+}];
 
 // As many rows as there can be purchases.
 const HOLDS: usize = 64;
@@ -23,7 +30,7 @@ const COURSE: u32 = 9;
 // The longest message, and room for a byte more.
 const AUTHORISATION: usize = 53;
 
-const LONGER: usize = 54;
+const LONGER: usize = AUTHORISATION + 1;
 
 // Where an authorisation has its card, and its amount.
 const CARD_AT: usize = 35;
@@ -89,20 +96,24 @@ fn handle<H: Host>(gateway: &mut Gateway<H>, message: &[u8]) -> Handled {
     gateway.handle(message, &mut strip, &mut answer)
 }
 
-// Writes the message and handles its bytes. What the writer refuses is never sent.
-fn send<H: Host>(gateway: &mut Gateway<H>, fields: &Fields) -> anyhow::Result<Handled> {
-    let mut message = [0u8; AUTHORISATION];
-    let Ok(length) = write(fields, &mut message) else {
+// The bytes that the message is written as, at the front of the buffer.
+fn written<'b>(fields: &Fields, buffer: &'b mut [u8]) -> anyhow::Result<&'b [u8]> {
+    let Ok(length) = write(fields, buffer) else {
         return Err(anyhow!("the writer refused a message"));
     };
-    if length > AUTHORISATION {
-        return Err(anyhow!("a message is longer than it can be"));
-    }
-    Ok(handle(gateway, &message[0..length]))
+    buffer
+        .get(..length)
+        .context("a message is longer than its buffer")
+}
+
+// Writes the message and handles its bytes. What the writer refuses is never sent.
+fn send<H: Host>(gateway: &mut Gateway<H>, fields: &Fields) -> anyhow::Result<Handled> {
+    let mut buffer = [0u8; AUTHORISATION];
+    Ok(handle(gateway, written(fields, &mut buffer)?))
 }
 
 // An authorisation a byte too short, and a byte too long.
-fn bad_lengths<H: Host>(rt: &HostRuntime, gateway: &mut Gateway<H>) -> anyhow::Result<()> {
+fn bad_lengths<H: Host>(rt: &impl Print, gateway: &mut Gateway<H>) -> anyhow::Result<()> {
     let mut message = [0u8; LONGER];
     let _ = write(&authorisation(1, 1, 3_000), &mut message);
     let short = handle(gateway, &message[0..AUTHORISATION - 1]);
@@ -112,22 +123,17 @@ fn bad_lengths<H: Host>(rt: &HostRuntime, gateway: &mut Gateway<H>) -> anyhow::R
     Ok(())
 }
 
-// Writes bytes over others, as far as there are any.
-fn overwrite(message: &mut [u8], at: usize, bytes: &[u8]) {
-    for (old, new) in message.iter_mut().skip(at).zip(bytes) {
-        *old = *new;
-    }
-}
-
 // An authorisation with these bytes in the place of its own.
-fn spoiled(at: usize, bytes: &[u8]) -> [u8; AUTHORISATION] {
+fn spoiled(at: usize, bytes: &[u8]) -> [u8; AUTHORISATION]
+    requires { at + length bytes.now ≤ AUTHORISATION }
+{
     let mut message = [0u8; AUTHORISATION];
     let _ = write(&authorisation(1, 1, 3_000), &mut message);
-    overwrite(&mut message, at, bytes);
+    message[at..at + bytes.len()].copy_from_slice(bytes);
     message
 }
 
-fn bad_fields<H: Host>(rt: &HostRuntime, gateway: &mut Gateway<H>) -> anyhow::Result<()> {
+fn bad_fields<H: Host>(rt: &impl Print, gateway: &mut Gateway<H>) -> anyhow::Result<()> {
     let twelve = handle(gateway, &spoiled(CARD_AT, &TWELVE_DIGITS));
     println!(rt; "a card of 12 digits: {twelve}")?;
     let much = handle(gateway, &spoiled(AMOUNT_AT, &TOO_MUCH.to_be_bytes()));
@@ -135,94 +141,86 @@ fn bad_fields<H: Host>(rt: &HostRuntime, gateway: &mut Gateway<H>) -> anyhow::Re
     Ok(())
 }
 
-// One authorisation more than there are rows for purchases.
-fn many_purchases<H: Host>(rt: &HostRuntime, gateway: &mut Gateway<H>) -> anyhow::Result<()> {
-    for name in 1..=65u8 {
-        let handled = send(gateway, &authorisation(u64::from(name), name, 100))?;
-        if name >= 64 {
-            println!(rt; "XID {name}: {handled}")?;
+// Sends messages in their order, and prints what the shown ones, counted from 1, were answered.
+fn send_all<H: Host, I: Iterator<Item = Fields> + Drop>(
+    rt: &impl Print,
+    gateway: &mut Gateway<H>,
+    name: &str,
+    shown: &[u64],
+    messages: I,
+) -> anyhow::Result<()>
+    requires can { I.can_next messages }
+    requires ends { IsFinite (I.remaining messages) }
+{
+    for (number, message) in (1u64..).zip(messages) {
+        let handled = send(gateway, &message)?;
+        if shown.contains(&number) {
+            println!(rt; "{name} {number}: {handled}")?;
         }
     }
     Ok(())
+}
+
+// One authorisation more than there are rows for purchases.
+fn many_purchases<H: Host>(rt: &impl Print, gateway: &mut Gateway<H>) -> anyhow::Result<()> {
+    let messages = (1..=65u8).map(|name| authorisation(u64::from(name), name, 100));
+    send_all(rt, gateway, "XID", &[64, 65], messages)
 }
 
 // One message more than there are rows for answers: openings of a batch that is open already.
-fn many_answers<H: Host>(rt: &HostRuntime, gateway: &mut Gateway<H>) -> anyhow::Result<()> {
-    for request in 1..=257u64 {
-        let handled = send(gateway, &batch_open(request, 1))?;
-        if request == 1 || request >= 256 {
-            println!(rt; "request {request}: {handled}")?;
-        }
-    }
-    Ok(())
+fn many_answers<H: Host>(rt: &impl Print, gateway: &mut Gateway<H>) -> anyhow::Result<()> {
+    let messages = (1..=257u64).map(|request| batch_open(request, 1));
+    send_all(rt, gateway, "request", &[1, 256, 257], messages)
 }
 
-fn many_batches<H: Host>(rt: &HostRuntime, gateway: &mut Gateway<H>) -> anyhow::Result<()> {
-    for batch in 1..=9u32 {
-        let handled = send(gateway, &batch_open(u64::from(batch), batch))?;
-        if batch >= 8 {
-            println!(rt; "batch {batch}: {handled}")?;
-        }
-    }
-    Ok(())
+// One batch more than there are rows for batches.
+fn many_batches<H: Host>(rt: &impl Print, gateway: &mut Gateway<H>) -> anyhow::Result<()> {
+    let messages = (1..=9u32).map(|batch| batch_open(u64::from(batch), batch));
+    send_all(rt, gateway, "batch", &[8, 9], messages)
 }
 
 // An authorisation whose put is lost, what is held then, a reversal, the authorisation again, and what is held then.
-fn lost_put<H: Host>(rt: &HostRuntime, gateway: &mut Gateway<H>) -> anyhow::Result<()> {
-    let authorised = send(gateway, &authorisation(1, 1, 3_000))?;
-    println!(rt; "authorisation: {authorised}")?;
-    let held = send(gateway, &inquiry(2, 1))?;
-    println!(rt; "inquiry: {held}")?;
-    let lowered = send(gateway, &reversal(3, 1, 2_000))?;
-    println!(rt; "reversal: {lowered}")?;
-    let again = send(gateway, &authorisation(1, 1, 3_000))?;
-    println!(rt; "the authorisation again: {again}")?;
-    let after = send(gateway, &inquiry(4, 1))?;
-    println!(rt; "inquiry: {after}")?;
+fn lost_put<H: Host>(rt: &impl Print, gateway: &mut Gateway<H>) -> anyhow::Result<()> {
+    for (name, message) in [
+        ("authorisation", authorisation(1, 1, 3_000)),
+        ("inquiry", inquiry(2, 1)),
+        ("reversal", reversal(3, 1, 2_000)),
+        ("the authorisation again", authorisation(1, 1, 3_000)),
+        ("inquiry", inquiry(4, 1)),
+    ] {
+        let handled = send(gateway, &message)?;
+        println!(rt; "{name}: {handled}")?;
+    }
     Ok(())
 }
 
-// What is tried on a gateway of its own.
-#[derive(Clone, Copy)]
-enum Edge {
-    BadLengths,
-    BadFields,
-    ManyPurchases,
-    ManyAnswers,
-    ManyBatches,
-    LostPut,
-}
-
-fn try_edge(rt: &HostRuntime, edge: Edge, marks: &[u8]) -> anyhow::Result<()> {
-    let accounts = [Account {
-        card: CARD,
-        balance: BALANCE,
-    }];
-    let mut holds = [Hold::FREE; HOLDS];
-    let line = BadLine::new(AccountBook::new(&accounts, &mut holds), marks);
-    let Ok(mut gateway) = Gateway::new(rt.alloc(), line) else {
+// A gateway with empty books, over a line with these marks and a book with nothing held in these rows.
+fn new_gateway<'h>(
+    alloc: Global,
+    holds: &'h mut [Hold],
+    marks: &[u8],
+) -> anyhow::Result<Gateway<BadLine<AccountBook<'h, 'h>>>> {
+    let line = BadLine::new(AccountBook::new(&ACCOUNTS, holds), marks);
+    let Ok(gateway) = Gateway::new(alloc, line) else {
         return Err(anyhow!("no memory for the books"));
     };
-    match edge {
-        Edge::BadLengths => bad_lengths(rt, &mut gateway),
-        Edge::BadFields => bad_fields(rt, &mut gateway),
-        Edge::ManyPurchases => many_purchases(rt, &mut gateway),
-        Edge::ManyAnswers => many_answers(rt, &mut gateway),
-        Edge::ManyBatches => many_batches(rt, &mut gateway),
-        Edge::LostPut => lost_put(rt, &mut gateway),
-    }
+    Ok(gateway)
 }
 
 fn run(rt: &HostRuntime) -> anyhow::Result<()> {
-    try_edge(rt, Edge::BadLengths, &[])?;
-    try_edge(rt, Edge::BadFields, &[])?;
-    try_edge(rt, Edge::ManyPurchases, &[])?;
-    try_edge(rt, Edge::ManyAnswers, &[])?;
-    try_edge(rt, Edge::ManyBatches, &[])?;
+    let mut holds = [Hold::FREE; HOLDS];
+    bad_lengths(rt, &mut new_gateway(rt.alloc(), &mut holds, &[])?)?;
+    bad_fields(rt, &mut new_gateway(rt.alloc(), &mut holds, &[])?)?;
+    many_purchases(rt, &mut new_gateway(rt.alloc(), &mut holds, &[])?)?;
+    many_answers(rt, &mut new_gateway(rt.alloc(), &mut holds, &[])?)?;
+    many_batches(rt, &mut new_gateway(rt.alloc(), &mut holds, &[])?)?;
     println!(rt; "the answer to the first put is lost:")?;
-    try_edge(rt, Edge::LostPut, &[LOSES_ANSWER])?;
+    lost_put(
+        rt,
+        &mut new_gateway(rt.alloc(), &mut holds, &[LOSES_ANSWER])?,
+    )?;
     println!(rt; "the first put itself is lost:")?;
-    try_edge(rt, Edge::LostPut, &[LOSES_CALL])
+    lost_put(rt, &mut new_gateway(rt.alloc(), &mut holds, &[LOSES_CALL])?)
 }
 
 fn main(rt: HostRuntime) -> anyhow::Result<()> {

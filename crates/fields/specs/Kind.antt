@@ -1,9 +1,11 @@
 -- The nine kinds of message, by number: the fields of each, its map and length, and the amounts it allows.
-use Rattle.std.specs.Prelude.{◌≡◌, ℕ, ◌+◌, ◌-◌, ◌^◌, Bool, ◌&&◌, List, [], ◌∷◌, map, codes, nat_le, slice_index, slice_index_or}
+use Rattle.std.specs.Prelude.{◌≡◌, ℕ, ◌+◌, ◌-◌, ◌^◌, Bool, false, ◌&&◌, List, [], ◌∷◌, map, codes, nat_le, slice_index, slice_index_or, Result, MatchResult}
 use Rattle.fields.specs.Field.{bit_of, length_under}
 use Rattle.fields.specs.declared.field.Field.{Field}
 use Rattle.fields.specs.declared.field.Field.TheVariants.{Kind as KindF, Request, Course, Xid, Card, Amount, Batch}
 use Rattle.fields.specs.declared.kind.Kind.{Kind}
+use Rattle.fields.specs.declared.refusal.Refusal.{Refusal}
+use Rattle.fields.specs.declared.refusal.Refusal.TheVariants.{UnknownKind}
 use Rattle.fields.specs.declared.kind.Kind.TheVariants.{AuthReq, AuthRevReq, CapReq, CapRevReq, CredReq, CredRevReq, BatchOpen, BatchClose, Inquiry}
 
 abbrev pub kind_number : Kind → ℕ
@@ -31,6 +33,10 @@ kind_name Inquiry = codes "inquiry"
 
 abbrev pub is_kind : ℕ → Bool
 is_kind k = nat_le 1 k && nat_le k 9
+
+-- the kind with this number, or the refusal of a number that no kind has
+abbrev pub IsKindOf : ℕ → Result Kind Refusal → Type 0
+IsKindOf n r = MatchResult r (λ kind. kind_number kind ≡ n) (λ e. (e ≡ UnknownKind) × (is_kind n ≡ false))
 
 -- the fields of each kind, by its number; there is no kind 0
 abbrev pub kind_fields : List (List Field)

@@ -9,7 +9,7 @@ pub const FIELDS: usize = 16;
 const WIDTHS: [usize; 16] = [1, 8, 4, 20, 10, 8, 4, 1, 0, 0, 0, 0, 0, 0, 0, 0];
 
 // The fields in use, each with its bit counted from the highest.
-#[derive(Clone, Copy)]
+#[derive(Clone, Copy, PartialEq, Eq, Hash, Debug)]
 pub enum Field {
     Kind = 0,
     Request = 1,
@@ -42,58 +42,59 @@ fn width_at(bit: usize) -> usize
     WIDTHS[bit]
 }
 
-// Whether the map has the field of this bit.
-fn has_bit(map: u16, bit: usize) -> bool
-    requires { bit < 16 }
-    ensures { result ≡ stands map bit }
-{
-    (map >> (15 - bit)) % 2 == 1
+// Which fields a message has, a bit for each.
+#[derive(Clone, Copy, PartialEq, Eq, Hash, Debug)]
+pub struct Map {
+    pub bits: u16,
 }
 
-// What the fields below this bit take up together.
-fn widths_to(map: u16, end: usize) -> usize
-    requires { end ≤ 16 }
-    ensures { result ≡ widths_to map end }
-{
-    let mut total = 0;
-    for bit in 0..end {
-        if has_bit(map, bit) {
-            total += width_at(bit);
-        }
+impl Map {
+    fn has_bit(self, bit: usize) -> bool
+        requires { bit < 16 }
+        ensures { result ≡ stands self.bits bit }
+    {
+        (self.bits >> (15 - bit)) % 2 == 1
     }
-    total
-}
 
-pub fn has(map: u16, field: Field) -> bool
-    ensures { result ≡ stands map (bit_of field) }
-{
-    has_bit(map, field.bit())
-}
+    // What the fields below this bit take up together.
+    fn widths_to(self, end: usize) -> usize
+        requires { end ≤ 16 }
+        ensures { result ≡ widths_to self.bits end }
+    {
+        let mut total = 0;
+        for bit in 0..end {
+            if self.has_bit(bit) {
+                total += width_at(bit);
+            }
+        }
+        total
+    }
 
-// Where a field begins: after the two bytes of the map and the fields before it.
-pub fn place(map: u16, field: Field) -> usize
-    ensures { result ≡ place map (bit_of field) }
-{
-    2 + widths_to(map, field.bit())
-}
+    pub fn has(self, field: Field) -> bool
+        ensures { result ≡ stands self.bits (bit_of field) }
+    {
+        self.has_bit(field.bit())
+    }
 
-// How long a message with this map is.
-pub fn length(map: u16) -> usize
-    ensures { result ≡ length_under map }
-{
-    2 + widths_to(map, FIELDS)
-}
+    // Where a field begins: after the two bytes of the map and the fields before it.
+    pub fn place(self, field: Field) -> usize
+        ensures { result ≡ place self.bits (bit_of field) }
+    {
+        2 + self.widths_to(field.bit())
+    }
 
-fn ones_of(map: u16) -> u32
-    ensures { result ≡ count_ones map }
-{
-    map.count_ones()
-}
+    // How long a message with this map is.
+    pub fn length(self) -> usize
+        ensures { result ≡ length_under self.bits }
+    {
+        2 + self.widths_to(FIELDS)
+    }
 
-// How many fields a message with this map has: as many as the map has standing bits.
-pub fn count(map: u16) -> u32
-    ensures value { result ≡ count_ones map }
-    ensures counted { result ≡ fields_to map 16 }
-{
-    ones_of(map)
+    // How many fields a message with this map has: as many as the map has standing bits.
+    pub fn count(self) -> u32
+        ensures value { result ≡ count_ones self.bits }
+        ensures counted { result ≡ fields_to self.bits 16 }
+    {
+        self.bits.count_ones()
+    }
 }

@@ -1,15 +1,16 @@
 // The nine kinds of message: the fields of each, and from these its map and its length; the amounts it allows.
-ghost use Rattle.std.specs.Prelude.{◌≡◌, ◌≤◌, if◌then◌else◌, Some, None};
-ghost use Rattle.std.specs.Option.{option_map};
+ghost use Rattle.std.specs.Prelude.{◌≡◌, Some};
 ghost use Rattle.fields.specs.Field.{bit_of, stands};
-ghost use Rattle.fields.specs.Kind.{kind_number, is_kind, map_of, length_of, KindsComeOut, amount_allowed, kind_name};
+ghost use Rattle.fields.specs.Kind.{kind_number, IsKindOf, map_of, length_of, KindsComeOut, amount_allowed, kind_name};
 
-use crate::field::{self, Field};
+use crate::field::{Field, Map};
+use crate::refusal::Refusal;
+use std::fmt;
 
 // The largest amount that a message may carry: one penny under a million pounds.
 pub const MOST_PENCE: u64 = 99_999_999;
 
-#[derive(Clone, Copy, PartialEq, Eq, Debug)]
+#[derive(Clone, Copy, PartialEq, Eq, Hash, Debug)]
 pub enum Kind {
     AuthReq = 1,
     AuthRevReq = 2,
@@ -22,54 +23,61 @@ pub enum Kind {
     Inquiry = 9,
 }
 
-impl Kind {
-    pub fn number(self) -> u8
-        ensures { result ≡ kind_number self }
-    {
-        self as u8
-    }
+impl From<Kind> for u8 {
+    ghost from_gives = { λ kind n. n ≡ kind_number kind };
 
-    pub fn from_number(n: u8) -> Option<Kind>
-        ensures { option_map kind_number result ≡ (if is_kind n then Some n else None) }
-    {
+    fn from(kind: Kind) -> u8 {
+        kind as u8
+    }
+}
+
+impl TryFrom<u8> for Kind {
+    type Error = Refusal;
+
+    ghost try_from_gives = { IsKindOf };
+
+    fn try_from(n: u8) -> Result<Kind, Refusal> {
         match n {
-            1 => Some(Kind::AuthReq),
-            2 => Some(Kind::AuthRevReq),
-            3 => Some(Kind::CapReq),
-            4 => Some(Kind::CapRevReq),
-            5 => Some(Kind::CredReq),
-            6 => Some(Kind::CredRevReq),
-            7 => Some(Kind::BatchOpen),
-            8 => Some(Kind::BatchClose),
-            9 => Some(Kind::Inquiry),
-            _ => None,
+            1 => Ok(Kind::AuthReq),
+            2 => Ok(Kind::AuthRevReq),
+            3 => Ok(Kind::CapReq),
+            4 => Ok(Kind::CapRevReq),
+            5 => Ok(Kind::CredReq),
+            6 => Ok(Kind::CredRevReq),
+            7 => Ok(Kind::BatchOpen),
+            8 => Ok(Kind::BatchClose),
+            9 => Ok(Kind::Inquiry),
+            _ => Err(Refusal::UnknownKind),
         }
     }
+}
 
-    pub fn map(self) -> u16
-        ensures { result ≡ map_of (kind_number self) }
+impl Kind {
+    pub fn map(self) -> Map
+        ensures { result.bits ≡ map_of (kind_number self) }
     {
-        match self {
+        let bits = match self {
             Kind::AuthReq => 0xFC00,
             Kind::AuthRevReq => 0xF400,
             Kind::CapReq | Kind::CredReq | Kind::CredRevReq => 0xF600,
             Kind::CapRevReq => 0xF200,
             Kind::BatchOpen | Kind::BatchClose => 0xE200,
             Kind::Inquiry => 0xF000,
-        }
+        };
+        Map { bits }
     }
 
     pub fn has(self, field: Field) -> bool
         ensures { result ≡ stands (map_of (kind_number self)) (bit_of field) }
     {
-        field::has(self.map(), field)
+        self.map().has(field)
     }
 
     pub fn length(self) -> usize
         ensures value { result ≡ length_of (kind_number self) }
         ensures table { KindsComeOut }
     {
-        field::length(self.map())
+        self.map().length()
     }
 
     // Whether a message of this kind may carry this amount; a kind without an amount has 0.
@@ -83,12 +91,13 @@ impl Kind {
         };
         least <= amount && amount <= most
     }
+}
 
-    // The name of the message.
-    pub fn name(self) -> &'static str
-        ensures { result.now ≡ kind_name self }
-    {
-        match self {
+impl fmt::Display for Kind {
+    ghost output = { λ kind. Some (kind_name kind) };
+
+    fn fmt<W: fmt::Write>(&self, f: &mut fmt::Formatter<W>) -> fmt::Result {
+        f.write_str(match self {
             Kind::AuthReq => "AuthReq",
             Kind::AuthRevReq => "AuthRevReq",
             Kind::CapReq => "CapReq",
@@ -98,6 +107,6 @@ impl Kind {
             Kind::BatchOpen => "batch open",
             Kind::BatchClose => "batch close",
             Kind::Inquiry => "inquiry",
-        }
+        })
     }
 }

@@ -1,33 +1,69 @@
 // A file of records, each a length byte and a message.
-ghost use Rattle.std.specs.Prelude.{◌≡◌, Some};
-ghost use Rattle.fields.specs.Record.{seen, cut_at, first_record};
+ghost use Rattle.std.specs.Prelude.{◌≡◌};
+ghost use Rattle.fields.specs.Record.{seen, first_record, records_in, records_left};
 
-// What stands at the front of such a file.
-#[derive(Clone, Copy)]
-pub enum Record<'a> {
-    // nothing more
-    End,
-    // a length byte, and fewer bytes than it says
-    Cut,
-    // a message, and the records after it
-    Whole(&'a [u8], &'a [u8]),
-}
+use std::error::Error;
+use std::fmt;
 
-fn cut(rest: &[u8], length: usize) -> Record<'_>
-    ensures { seen result ≡ Some (cut_at length rest.now) }
-{
-    if rest.len() < length {
-        return Record::Cut;
+// A length byte, and fewer bytes after it than it says.
+#[derive(Clone, Copy, PartialEq, Eq, Debug)]
+pub struct Cut;
+
+impl fmt::Display for Cut {
+    ghost use Rattle.std.specs.Prelude.{Some, codes};
+
+    ghost output = { λ _. Some (codes "cut") };
+
+    fn fmt<W: fmt::Write>(&self, f: &mut fmt::Formatter<W>) -> fmt::Result {
+        f.write_str("cut")
     }
-    let (message, after) = rest.split_at(length);
-    Record::Whole(message, after)
 }
 
-pub fn first_record(bytes: &[u8]) -> Record<'_>
+impl Error for Cut {}
+
+// What stands at the front: nothing more, a cut record, or a message and the records after it.
+pub fn first_record(bytes: &[u8]) -> Option<Result<(&[u8], &[u8]), Cut>>
     ensures { seen result ≡ first_record bytes.now }
 {
-    if bytes.is_empty() {
-        return Record::End;
+    let (length, rest) = bytes.split_first()?;
+    Some(rest.split_at_checked(usize::from(*length)).ok_or(Cut))
+}
+
+// The messages in order, and the end after a cut record.
+#[derive(Clone, Copy, Debug)]
+pub struct Records<'a> {
+    rest: &'a [u8],
+}
+
+impl<'a> Records<'a> {
+    pub fn new(bytes: &'a [u8]) -> Records<'a>
+        ensures { records_left result ≡ records_in bytes.now }
+    {
+        Records { rest: bytes }
     }
-    cut(&bytes[1..], usize::from(bytes[0]))
+}
+
+impl<'a> Iterator for Records<'a> {
+    ghost use Rattle.std.specs.Iterator.{YieldsFirstBy, item_count};
+    ghost use Rattle.fields.specs.Record.{shown, records_left};
+
+    type Item = Result<&'a [u8], Cut>;
+
+    ghost next_gives = { YieldsFirstBy shown records_left };
+
+    ghost remaining = { item_count records_left };
+
+    #[tactic(auto, using(crate::proofs::Recorded::whole_first))]
+    fn next(&mut self) -> Option<Result<&'a [u8], Cut>> {
+        match first_record(self.rest)? {
+            Ok((message, after)) => {
+                self.rest = after;
+                Some(Ok(message))
+            }
+            Err(Cut) => {
+                self.rest = &[];
+                Some(Err(Cut))
+            }
+        }
+    }
 }

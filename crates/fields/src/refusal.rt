@@ -1,8 +1,11 @@
 // Why a message is not opened or not written.
-ghost use Rattle.std.specs.Prelude.{◌≡◌};
+ghost use Rattle.std.specs.Prelude.{◌≡◌, Some};
 ghost use Rattle.fields.specs.Refusal.{refusal_number, refusal_reason};
 
-#[derive(Clone, Copy, Debug)]
+use std::error::Error;
+use std::fmt;
+
+#[derive(Clone, Copy, PartialEq, Eq, Hash, Debug)]
 pub enum Refusal {
     // A lent buffer or the digit strip is too short.
     ShortBuffer = 1,
@@ -16,17 +19,19 @@ pub enum Refusal {
     AmountNotAllowed = 7,
 }
 
-impl Refusal {
-    pub fn number(self) -> u8
-        ensures { result ≡ refusal_number self }
-    {
-        self as u8
-    }
+impl From<Refusal> for u8 {
+    ghost from_gives = { λ refusal n. n ≡ refusal_number refusal };
 
-    pub fn reason(self) -> &'static str
-        ensures { result.now ≡ refusal_reason self }
-    {
-        match self {
+    fn from(refusal: Refusal) -> u8 {
+        refusal as u8
+    }
+}
+
+impl fmt::Display for Refusal {
+    ghost output = { λ refusal. Some (refusal_reason refusal) };
+
+    fn fmt<W: fmt::Write>(&self, f: &mut fmt::Formatter<W>) -> fmt::Result {
+        f.write_str(match self {
             Refusal::ShortBuffer => "a buffer is too short",
             Refusal::NotAMessage => "under 3 bytes, field 1 missing, or a reserved bit set",
             Refusal::UnknownKind => "the kind is not 1 to 9",
@@ -34,6 +39,8 @@ impl Refusal {
             Refusal::WrongLength => "the length is not the kind's",
             Refusal::BadCard => "the card is not packed rightly or fails the Luhn check",
             Refusal::AmountNotAllowed => "the amount is not allowed",
-        }
+        })
     }
 }
+
+impl Error for Refusal {}

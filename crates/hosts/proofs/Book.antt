@@ -1,16 +1,17 @@
--- Why the rows of an account book after a put hold what the host's meaning says.
+-- Why the rows of an account book hold what the host's meaning says once an amount is written.
 use Rattle.std.proofs.Common.{◌≡◌, ℕ, zero, suc, Bool, true, false, cond, ◌||◌, eqb, leb, ◌⊎◌, List, map, length, get_or, set, replicate, is_some, Some, None, Option, sym, refl, ap, ◌∙◌, inl, inr, arith}
 use Rattle.std.specs.Option.{option_or}
 use Rattle.std.specs.List.{AllWithin}
 use Rattle.std.proofs.lemmas.Bool.{and_parts, both_ways, cond-false, cond_both, eqb-true}
 use Rattle.std.proofs.lemmas.Bool.Decides.{nat_tests}
+use Rattle.std.proofs.lemmas.List.Folds.{find_past}
 use Rattle.rows.specs.First.{first_with, Found}
-use Rattle.rows.proofs.First.{found_of_first, none_of_first, row_none, row_set_here, row_set_other, row_map_other, row_map_none}
-use Rattle.host.specs.Parts.{CardNumber, ReferenceNumber, Pence, HoldsNothing, SameHeld, heard_puts, same_pair}
-use Rattle.host.specs.Meaning.{PutMeans, grants, held_after, held_after_put, put_answer}
-use Rattle.host.specs.declared.PutReply.{PutReply}
-use Rattle.host.proofs.Meaning.{held_by_pair, put_means}
-use Rattle.hosts.specs.Book.{is_free, is_hold, free_hold, freed, amount_of, held_in, place_for, book_assents, set_at, written, holds_after}
+use Rattle.rows.proofs.First.{found_of_first, none_of_first, row_none, row_set_here, row_map_other, row_map_none}
+use Rattle.host.specs.Parts.{CardNumber, ReferenceNumber, Pence, HoldsNothing, SameHeld, same_pair}
+use Rattle.host.specs.Meaning.{grants, held_after}
+use Rattle.host.proofs.Meaning.{held_by_pair}
+use Rattle.hosts.specs.Book.{is_free, is_hold, free_hold, freed, amount_of, held_in, place_for, book_assents, set_at, written}
+use Rattle.hosts.specs.Keeper.{granted}
 use Rattle.hosts.specs.declared.account_book.Account.{Account}
 use Rattle.hosts.specs.declared.account_book.Hold.{Hold}
 
@@ -61,7 +62,7 @@ module _ (holds : List Hold) (card : CardNumber) (reference : ReferenceNumber) w
 
     set_elsewhere : (place : ℕ) → Placed place → (card' : CardNumber) (reference' : ReferenceNumber) → same_pair card' reference' card reference ≡ false → held_in (set holds place new) card' reference' ≡ held_in holds card' reference'
     set_elsewhere place stood card' reference' other =
-        ap amount_of (row_set_other (is_hold card' reference') holds place new new (grind (arith, nat_tests)) (was stood))
+        ap amount_of (find_past (is_hold card' reference') holds place new new (was stood) (grind (arith, nat_tests)))
       where
         was : Placed place → is_hold card' reference' (get_or holds place new) ≡ false
         was (inl own) = one_pair card card' reference reference' (get_or holds place new) other (own.passes new)
@@ -112,22 +113,13 @@ module _ (holds : List Hold) (card : CardNumber) (reference : ReferenceNumber) w
       by_amount true = free_elsewhere card' reference' other
       by_amount false = by_place (place_for holds card reference) refl
 
--- the rows after a put hold what a heard put makes of held, and nothing else moves
-book_holds : (accounts : List Account) (holds : List Hold) (card : CardNumber) (reference : ReferenceNumber) (amount : Pence) → SameHeld (held_in (holds_after accounts holds card reference amount)) (held_after_put heard_puts (held_in holds) (book_assents accounts holds) card reference amount)
-book_holds accounts holds card reference amount = by_grant (grants (held_in holds card reference) (book_assents accounts holds card reference amount) amount) refl
-  where
-    by_grant : (granted : Bool) → grants (held_in holds card reference) (book_assents accounts holds card reference amount) amount ≡ granted → SameHeld (held_in (cond granted (written holds card reference amount) holds)) (held_after (held_in holds) card reference (cond granted amount (held_in holds card reference)))
-    by_grant true e =
-        held_by_pair (held_in holds) (held_in (written holds card reference amount)) card reference amount
-        (written_here holds card reference amount (λ some. has_place holds card reference (book_assents accounts holds card reference amount) amount (λ assent. (and_parts _ _ assent).1) some e))
-        (written_elsewhere holds card reference amount)
-    by_grant false e = held_by_pair (held_in holds) (held_in holds) card reference (held_in holds card reference) refl (λ card' reference' other. refl)
-
--- so a put that leaves those rows has the meaning
-pub book_means : (accounts : List Account) (holds after : List Hold) (card : CardNumber) (reference : ReferenceNumber) (amount : Pence) (r : PutReply) → r ≡ put_answer heard_puts (held_in holds) (book_assents accounts holds) card reference amount → after ≡ holds_after accounts holds card reference amount → PutMeans heard_puts (held_in holds) (book_assents accounts holds) (held_in after) card reference amount r
-book_means accounts holds after card reference amount r reply rows =
-    put_means heard_puts (held_in holds) (book_assents accounts holds) (held_in after) card reference amount r reply
-    (λ card' reference'. ap (λ held. held_in held card' reference') rows ∙ book_holds accounts holds card reference amount card' reference')
+-- so what is written, if it was granted, holds the amount for the pair, and nothing else moves
+pub written_holds : (accounts : List Account) (holds after : List Hold) (card : CardNumber) (reference : ReferenceNumber) (amount : Pence) → granted (held_in holds) (book_assents accounts holds) card reference amount ≡ true → after ≡ written holds card reference amount → SameHeld (held_in after) (held_after (held_in holds) card reference amount)
+written_holds accounts holds after card reference amount may rows =
+    rw rows
+    (held_by_pair (held_in holds) (held_in (written holds card reference amount)) card reference amount
+    (written_here holds card reference amount (λ some. has_place holds card reference (book_assents accounts holds card reference amount) amount (λ assent. (and_parts _ _ assent).1) some may))
+    (written_elsewhere holds card reference amount))
 
 -- rows that are all free hold nothing
 pub free_holds_nothing : (n : ℕ) → HoldsNothing (held_in (replicate n free_hold))

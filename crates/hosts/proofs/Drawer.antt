@@ -1,15 +1,15 @@
--- Why the rows of a voucher drawer after a put hold what the host's meaning says.
-use Rattle.std.proofs.Common.{◌≡◌, Bool, true, false, cond, eqb, List, [], ◌∷◌, map, Some, None, Option, sym, refl, ap, ◌∙◌, subst, arith}
+-- Why the rows of a voucher drawer hold what the host's meaning says once an amount is written.
+use Rattle.std.proofs.Common.{◌≡◌, Bool, true, false, eqb, List, [], ◌∷◌, map, Some, None, Option, sym, refl, ap, ◌∙◌, subst, arith}
 use Rattle.std.specs.Option.{option_map}
 use Rattle.std.proofs.lemmas.Bool.{cond_both, eqb-true}
 use Rattle.std.proofs.lemmas.Bool.Decides.{nat_tests}
-use Rattle.rows.specs.First.{row_with, update_first}
+use Rattle.rows.specs.First.{row_with}
 use Rattle.rows.proofs.First.{row_update, row_update_other}
-use Rattle.host.specs.Parts.{CardNumber, ReferenceNumber, Pence, HoldsNothing, SameHeld, heard_puts, same_pair}
-use Rattle.host.specs.Meaning.{PutMeans, grants, held_after, held_after_put, put_answer}
-use Rattle.host.specs.declared.PutReply.{PutReply}
-use Rattle.host.proofs.Meaning.{held_by_pair, put_means}
-use Rattle.hosts.specs.Drawer.{is_voucher, unused, held_under, raisable, changed, drawer_holds, drawer_assents, vouchers_after}
+use Rattle.host.specs.Parts.{CardNumber, ReferenceNumber, Pence, HoldsNothing, SameHeld, same_pair}
+use Rattle.host.specs.Meaning.{grants, held_after}
+use Rattle.host.proofs.Meaning.{held_by_pair}
+use Rattle.hosts.specs.Drawer.{is_voucher, unused, held_under, raisable, changed, drawer_holds, drawer_assents, vouchers_written}
+use Rattle.hosts.specs.Keeper.{granted}
 use Rattle.hosts.specs.declared.voucher_drawer.Voucher.{Voucher}
 
 abbrev pub no_voucher : Voucher
@@ -32,7 +32,7 @@ module _ (vouchers : List Voucher) (card : CardNumber) (reference : ReferenceNum
   first = row_with (is_voucher card) vouchers
 
   abbrev after : List Voucher
-  after = update_first (is_voucher card) (changed reference amount) vouchers
+  after = vouchers_written vouchers card reference amount
 
   first_after : row_with (is_voucher card) after ≡ option_map (changed reference amount) first
   first_after =
@@ -57,21 +57,12 @@ module _ (vouchers : List Voucher) (card : CardNumber) (reference : ReferenceNum
                 let not_its : is_voucher card' voucher ≡ false = grind (arith, nat_tests) in
                 (not_its, rw (changed_card reference amount voucher) not_its)
 
--- the rows after a put hold what a heard put makes of held, and nothing else moves
-drawer_holds_after : (vouchers : List Voucher) (card : CardNumber) (reference : ReferenceNumber) (amount : Pence) → SameHeld (drawer_holds (vouchers_after vouchers card reference amount)) (held_after_put heard_puts (drawer_holds vouchers) (drawer_assents vouchers) card reference amount)
-drawer_holds_after vouchers card reference amount = by_grant (grants (drawer_holds vouchers card reference) (drawer_assents vouchers card reference amount) amount) refl
-  where
-    by_grant : (granted : Bool) → grants (drawer_holds vouchers card reference) (drawer_assents vouchers card reference amount) amount ≡ granted → SameHeld (drawer_holds (cond granted (after vouchers card reference amount) vouchers)) (held_after (drawer_holds vouchers) card reference (cond granted amount (drawer_holds vouchers card reference)))
-    by_grant true e =
-        held_by_pair (drawer_holds vouchers) (drawer_holds (after vouchers card reference amount)) card reference amount
-        (here vouchers card reference amount e) (elsewhere vouchers card reference amount e)
-    by_grant false e = held_by_pair (drawer_holds vouchers) (drawer_holds vouchers) card reference (drawer_holds vouchers card reference) refl (λ card' reference' other. refl)
-
--- so a put that leaves those rows has the meaning
-pub drawer_means : (vouchers after : List Voucher) (card : CardNumber) (reference : ReferenceNumber) (amount : Pence) (r : PutReply) → r ≡ put_answer heard_puts (drawer_holds vouchers) (drawer_assents vouchers) card reference amount → after ≡ vouchers_after vouchers card reference amount → PutMeans heard_puts (drawer_holds vouchers) (drawer_assents vouchers) (drawer_holds after) card reference amount r
-drawer_means vouchers after card reference amount r reply rows =
-    put_means heard_puts (drawer_holds vouchers) (drawer_assents vouchers) (drawer_holds after) card reference amount r reply
-    (λ card' reference'. ap (λ held. drawer_holds held card' reference') rows ∙ drawer_holds_after vouchers card reference amount card' reference')
+-- so the voucher written, if it was granted, holds the amount for the pair, and nothing else moves
+pub written_holds : (vouchers after : List Voucher) (card : CardNumber) (reference : ReferenceNumber) (amount : Pence) → granted (drawer_holds vouchers) (drawer_assents vouchers) card reference amount ≡ true → after ≡ vouchers_written vouchers card reference amount → SameHeld (drawer_holds after) (held_after (drawer_holds vouchers) card reference amount)
+written_holds vouchers after card reference amount may rows =
+    rw rows
+    (held_by_pair (drawer_holds vouchers) (drawer_holds (vouchers_written vouchers card reference amount)) card reference amount
+    (here vouchers card reference amount may) (elsewhere vouchers card reference amount may))
 
 -- vouchers that were never used hold nothing
 pub unused_holds_nothing : (vouchers : List Voucher) → HoldsNothing (drawer_holds (map unused vouchers))

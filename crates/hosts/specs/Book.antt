@@ -3,7 +3,7 @@ use Rattle.std.specs.Prelude.{ℕ, ◌+◌, Bool, false, cond, not, ◌&&◌, Li
 use Rattle.std.specs.Option.{option_or}
 use Rattle.rows.specs.First.{first_with, row_with}
 use Rattle.host.specs.Parts.{CardNumber, ReferenceNumber, Pence, Holdings, Assents, same_card, same_pair}
-use Rattle.host.specs.Meaning.{grants}
+use Rattle.hosts.specs.Keeper.{granted}
 use Rattle.hosts.specs.declared.account_book.Account.{Account}
 use Rattle.hosts.specs.declared.account_book.Hold.{Hold}
 use Rattle.hosts.specs.declared.account_book.HoldKey.{HoldKey}
@@ -70,4 +70,4 @@ written holds card reference amount =
 
 abbrev pub holds_after : List Account → List Hold → CardNumber → ReferenceNumber → Pence → List Hold
 holds_after accounts holds card reference amount =
-    cond (grants (held_in holds card reference) (book_assents accounts holds card reference amount) amount) (written holds card reference amount) holds
+    cond (granted (held_in holds) (book_assents accounts holds) card reference amount) (written holds card reference amount) holds

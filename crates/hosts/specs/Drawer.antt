@@ -2,7 +2,7 @@
 use Rattle.std.specs.Prelude.{Bool, false, cond, ◌&&◌, ◌||◌, List, Some, None, Option, ◌==◌, nat_le}
 use Rattle.rows.specs.First.{row_with, update_first}
 use Rattle.host.specs.Parts.{CardNumber, ReferenceNumber, Pence, Holdings, Assents, same_card}
-use Rattle.host.specs.Meaning.{grants}
+use Rattle.hosts.specs.Keeper.{granted}
 use Rattle.hosts.specs.declared.voucher_drawer.Voucher.{Voucher}
 
 -- the first voucher with the card counts
@@ -37,7 +37,10 @@ changed reference amount voucher =
     (cond (voucher.reference == reference) (record { card = voucher.card; face = voucher.face; reference = voucher.reference; held = 0 }) voucher)
     (record { card = voucher.card; face = voucher.face; reference = reference; held = amount })
 
+-- the vouchers once it is done, and after any put
+abbrev pub vouchers_written : List Voucher → CardNumber → ReferenceNumber → Pence → List Voucher
+vouchers_written vouchers card reference amount = update_first (is_voucher card) (changed reference amount) vouchers
+
 abbrev pub vouchers_after : List Voucher → CardNumber → ReferenceNumber → Pence → List Voucher
 vouchers_after vouchers card reference amount =
-    cond (grants (drawer_holds vouchers card reference) (drawer_assents vouchers card reference amount) amount)
-    (update_first (is_voucher card) (changed reference amount) vouchers) vouchers
+    cond (granted (drawer_holds vouchers) (drawer_assents vouchers) card reference amount) (vouchers_written vouchers card reference amount) vouchers

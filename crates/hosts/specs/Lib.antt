@@ -3,3 +3,4 @@ pub mod BookHost
 pub mod Drawer
 pub mod DrawerHost
 pub mod Examples
+pub mod Keeper

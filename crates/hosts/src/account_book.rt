@@ -1,22 +1,24 @@
 //! A host that keeps holds against the balances of accounts.
-ghost use Rattle.std.specs.Prelude.{◌≡◌, ◌+◌, ◌<◌, map, length, replicate, IfSome, nat_le};
+ghost use Rattle.std.specs.Prelude.{◌≡◌, ◌+◌, ◌<◌, map, length, replicate, IfSome, is_some, nat_le};
 ghost use Rattle.host.specs.Meaning.{PutMeans, ReadMeans, put_reply};
 ghost use Rattle.host.specs.Parts.{HoldsNothing, heard_puts, heard_reads};
 ghost use Rattle.host.specs.declared.Fate.TheVariants.{Heard};
 ghost use Rattle.hosts.specs.Book.{book_assents, free_hold, freed, has_key, held_in, holds_after, is_account, other_amount, other_holds, place_for, written};
-ghost use Rattle.hosts.specs.BookHost.{book_assent, book_held};
+ghost use Rattle.hosts.specs.BookHost.{BookWritten, book_assent, book_held};
 
+use crate::keeper::{self, Keeper};
 use host::{Amount, Card, Host, Pair, PutReply, ReadReply, Reference};
 use rows::{Keyed, find, search};
 
-#[derive(Clone, Copy)]
+#[derive(Clone, Copy, PartialEq, Eq, Debug)]
 pub struct Account {
     pub card: Card,
     pub balance: Amount,
 }
 
 /// A row of the holds. One of amount 0 is free.
-#[derive(Clone, Copy)]
+// The rows are lent: one that is free shows it by its amount, and there is no Option round it.
+#[derive(Clone, Copy, PartialEq, Eq, Debug)]
 pub struct Hold {
     pub card: Card,
     pub reference: Reference,
@@ -93,13 +95,6 @@ impl Keyed for Hold {
     }
 }
 
-/// The amount held for the pair, 0 for none.
-fn held_in(holds: &[Hold], pair: Pair) -> Amount
-    ensures { result ≡ held_in holds.now pair.card pair.reference }
-{
-    find(holds, &HoldKey::Of(pair)).map_or(0, |hold| hold.amount)
-}
-
 /// Where a hold of the pair is written: its row, else the first free one.
 fn place_for(holds: &[Hold], pair: Pair) -> Option<usize>
     ensures value { result ≡ place_for holds.now pair.card pair.reference }
@@ -108,41 +103,28 @@ fn place_for(holds: &[Hold], pair: Pair) -> Option<usize>
     search(holds, &HoldKey::Of(pair)).or_else(|| search(holds, &HoldKey::Free))
 }
 
-/// Whether the amount and the card's holds under other references come to at most the balance.
-fn covers(holds: &[Hold], pair: Pair, amount: Amount, balance: Amount) -> bool
-    ensures { result ≡ nat_le (amount + other_holds holds.now pair.card pair.reference) balance }
+/// What the balance leaves once the amount and the card's holds under other references are taken
+/// from it, if it covers them.
+fn left_of(balance: Amount, holds: &[Hold], pair: Pair, amount: Amount) -> Option<Amount>
+    ensures { is_some result ≡ nat_le (amount + other_holds holds.now pair.card pair.reference) balance }
 {
-    // what is left is taken down step by step, since the sum may not fit its type
-    let Some(mut left) = balance.checked_sub(amount) else {
-        return false;
-    };
+    // they are taken one by one, since their sum may not fit its type
+    let mut left = balance.checked_sub(amount)?;
     for hold in holds {
-        let other = hold.other_amount(pair);
-        if left < other {
-            return false;
-        }
-        left -= other;
+        left = left.checked_sub(hold.other_amount(pair))?;
     }
-    true
+    Some(left)
 }
 
 /// Frees the row of the pair. A pair has at most one in a book that was made cleared; where a lent
 /// list had more, all go, so that nothing is held for the pair after.
+#[tactic(auto, using(crate::proofs::InPlace::map_turn))]
 fn release(holds: &mut [Hold], pair: Pair)
     ensures { holds.new ≡ map (freed pair.card pair.reference) holds.old }
 {
     for hold in holds.iter_mut() {
         *hold = hold.without(pair);
     }
-}
-
-/// Whether the book would raise a hold of the pair to the amount.
-fn assents(accounts: &[Account], holds: &[Hold], pair: Pair, amount: Amount) -> bool
-    ensures { result ≡ book_assents accounts.now holds.now pair.card pair.reference amount }
-{
-    find(accounts, &pair.card).is_some_and(|account| {
-        covers(holds, pair, amount, account.balance) && place_for(holds, pair).is_some()
-    })
 }
 
 /// Writes the amount into the pair's row or the first free one; 0 frees the row.
@@ -160,27 +142,6 @@ fn write(holds: &mut [Hold], pair: Pair, amount: Amount)
     }
 }
 
-/// A put that is heard: done where it is no raise or has assent, and refused otherwise.
-fn put_hold(accounts: &[Account], holds: &mut [Hold], pair: Pair, amount: Amount) -> PutReply
-    ensures reply { result ≡ put_reply Heard (held_in holds.old pair.card pair.reference) (book_assents accounts.now holds.old pair.card pair.reference amount) amount }
-    ensures rows { holds.new ≡ holds_after accounts.now holds.old pair.card pair.reference amount }
-{
-    if amount <= held_in(holds, pair) || assents(accounts, holds, pair, amount) {
-        write(holds, pair, amount);
-        PutReply::Done
-    } else {
-        PutReply::Refused
-    }
-}
-
-/// Makes every row free.
-fn clear(holds: &mut [Hold])
-    ensures rows { holds.new ≡ replicate (length holds.old) free_hold }
-    ensures nothing { HoldsNothing (held_in holds.new) }
-{
-    holds.fill(Hold::FREE);
-}
-
 /// Accounts that it only reads, and holds that it keeps. Every call is heard.
 #[derive(Drop)]
 pub struct AccountBook<'a, 'h> {
@@ -190,12 +151,13 @@ pub struct AccountBook<'a, 'h> {
 
 impl<'a, 'h> AccountBook<'a, 'h> {
     /// A book over the accounts, with every row of the holds cleared.
+    #[tactic(auto, using(crate::proofs::Book::free_holds_nothing))]
     pub fn new(accounts: &'a [Account], holds: &'h mut [Hold]) -> AccountBook<'a, 'h>
         ensures accounts { result.accounts.now ≡ accounts.now }
         ensures rows { result.holds.now ≡ replicate (length holds.old) free_hold }
         ensures nothing { HoldsNothing (book_held result) }
     {
-        clear(holds);
+        holds.fill(Hold::FREE);
         AccountBook { accounts, holds }
     }
 
@@ -203,13 +165,37 @@ impl<'a, 'h> AccountBook<'a, 'h> {
     pub fn held(&self, pair: Pair) -> Amount
         ensures { result ≡ book_held self.now pair.card pair.reference }
     {
-        held_in(self.holds, pair)
+        self.amount_held(pair)
     }
 
     pub fn holds(&self) -> &[Hold]
         ensures { result.now ≡ self.now.holds.now }
     {
         self.holds
+    }
+}
+
+impl Keeper for AccountBook<'_, '_> {
+    ghost held = { book_held };
+
+    ghost assent = { book_assent };
+
+    ghost written = { BookWritten };
+
+    fn amount_held(&self, pair: Pair) -> Amount {
+        find(self.holds, &HoldKey::Of(pair)).map_or(0, |hold| hold.amount)
+    }
+
+    fn assents(&self, pair: Pair, amount: Amount) -> bool {
+        find(self.accounts, &pair.card).is_some_and(|account| {
+            left_of(account.balance, self.holds, pair, amount).is_some()
+                && place_for(self.holds, pair).is_some()
+        })
+    }
+
+    #[tactic(auto, using(crate::proofs::Book::written_holds))]
+    fn write(&mut self, pair: Pair, amount: Amount) {
+        write(self.holds, pair, amount);
     }
 }
 
@@ -227,13 +213,13 @@ impl Host for AccountBook<'_, '_> {
         ensures rows { self.new.holds.now ≡ holds_after self.old.accounts.now self.old.holds.now pair.card pair.reference amount }
         ensures accounts { self.new.accounts ≡ self.old.accounts }
     {
-        put_hold(self.accounts, self.holds, pair, amount)
+        keeper::put(self, pair, amount)
     }
 
     fn read(&mut self, pair: Pair) -> ReadReply
         ensures means { ReadMeans heard_reads (book_held self.old) (book_held self.new) pair.card pair.reference result }
         ensures same { self.new ≡ self.old }
     {
-        ReadReply::Holds(self.held(pair))
+        keeper::read(self, pair)
     }
 }

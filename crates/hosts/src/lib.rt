@@ -3,4 +3,5 @@
 
 pub mod account_book;
 pub mod examples;
+mod keeper;
 pub mod voucher_drawer;

@@ -4,13 +4,15 @@ ghost use Rattle.rows.specs.First.{update_first};
 ghost use Rattle.host.specs.Meaning.{PutMeans, ReadMeans, put_reply};
 ghost use Rattle.host.specs.Parts.{HoldsNothing, heard_puts, heard_reads};
 ghost use Rattle.host.specs.declared.Fate.TheVariants.{Heard};
-ghost use Rattle.hosts.specs.Drawer.{changed, drawer_assents, drawer_holds, held_under, is_voucher, raisable, unused, vouchers_after};
-ghost use Rattle.hosts.specs.DrawerHost.{drawer_assent, drawer_held};
+ghost use Rattle.hosts.specs.Drawer.{changed, drawer_assents, drawer_holds, held_under, is_voucher, raisable, unused, vouchers_after, vouchers_written};
+ghost use Rattle.hosts.specs.DrawerHost.{DrawerWritten, drawer_assent, drawer_held};
 
+use crate::keeper::{self, Keeper};
 use host::{Amount, Card, Host, Pair, PutReply, ReadReply, Reference};
 use rows::{Keyed, find, search};
 
-#[derive(Clone, Copy)]
+// The rows are lent: one that holds nothing shows it by held 0, and has no Option in it.
+#[derive(Clone, Copy, PartialEq, Eq, Debug)]
 pub struct Voucher {
     pub card: Card,
     pub face: Amount,
@@ -77,46 +79,19 @@ impl Keyed for Voucher {
     }
 }
 
-/// What is held for the pair, 0 for none.
-fn held_by(vouchers: &[Voucher], pair: Pair) -> Amount
-    ensures { result ≡ drawer_holds vouchers.now pair.card pair.reference }
-{
-    find(vouchers, &pair.card).map_or(0, |voucher| voucher.held_under(pair.reference))
-}
-
-/// Whether the drawer would raise a hold of the pair to the amount.
-fn assents(vouchers: &[Voucher], pair: Pair, amount: Amount) -> bool
-    ensures { result ≡ drawer_assents vouchers.now pair.card pair.reference amount }
-{
-    find(vouchers, &pair.card).is_some_and(|voucher| voucher.raisable(pair.reference, amount))
-}
-
 /// Updates the first voucher with the card where it lies.
 fn change_voucher(vouchers: &mut [Voucher], pair: Pair, amount: Amount)
-    ensures { vouchers.new ≡ update_first (is_voucher pair.card) (changed pair.reference amount) vouchers.old }
+    ensures { vouchers.new ≡ vouchers_written vouchers.old pair.card pair.reference amount }
 {
     if let Some(place) = search(vouchers, &pair.card) {
         vouchers[place] = vouchers[place].changed(pair.reference, amount);
     }
 }
 
-/// A put that is heard: done where it is no raise or has assent, and refused otherwise.
-fn put_voucher(vouchers: &mut [Voucher], pair: Pair, amount: Amount) -> PutReply
-    ensures reply { result ≡ put_reply Heard (drawer_holds vouchers.old pair.card pair.reference) (drawer_assents vouchers.old pair.card pair.reference amount) amount }
-    ensures rows { vouchers.new ≡ vouchers_after vouchers.old pair.card pair.reference amount }
-{
-    if amount <= held_by(vouchers, pair) || assents(vouchers, pair, amount) {
-        change_voucher(vouchers, pair, amount);
-        PutReply::Done
-    } else {
-        PutReply::Refused
-    }
-}
-
 /// Makes every voucher as it was before any use.
+#[tactic(auto, using(crate::proofs::InPlace::map_turn))]
 fn clear(vouchers: &mut [Voucher])
-    ensures rows { vouchers.new ≡ map unused vouchers.old }
-    ensures nothing { HoldsNothing (drawer_holds vouchers.new) }
+    ensures { vouchers.new ≡ map unused vouchers.old }
 {
     for voucher in vouchers.iter_mut() {
         *voucher = voucher.unused();
@@ -131,6 +106,7 @@ pub struct VoucherDrawer<'v> {
 
 impl<'v> VoucherDrawer<'v> {
     /// A drawer over the vouchers, each made as it was before any use.
+    #[tactic(auto, using(crate::proofs::Drawer::unused_holds_nothing))]
     pub fn new(vouchers: &'v mut [Voucher]) -> VoucherDrawer<'v>
         ensures rows { result.vouchers.now ≡ map unused vouchers.old }
         ensures nothing { HoldsNothing (drawer_held result) }
@@ -143,13 +119,35 @@ impl<'v> VoucherDrawer<'v> {
     pub fn held(&self, pair: Pair) -> Amount
         ensures { result ≡ drawer_held self.now pair.card pair.reference }
     {
-        held_by(self.vouchers, pair)
+        self.amount_held(pair)
     }
 
     pub fn vouchers(&self) -> &[Voucher]
         ensures { result.now ≡ self.now.vouchers.now }
     {
         self.vouchers
+    }
+}
+
+impl Keeper for VoucherDrawer<'_> {
+    ghost held = { drawer_held };
+
+    ghost assent = { drawer_assent };
+
+    ghost written = { DrawerWritten };
+
+    fn amount_held(&self, pair: Pair) -> Amount {
+        find(self.vouchers, &pair.card).map_or(0, |voucher| voucher.held_under(pair.reference))
+    }
+
+    fn assents(&self, pair: Pair, amount: Amount) -> bool {
+        let found = find(self.vouchers, &pair.card);
+        found.is_some_and(|voucher| voucher.raisable(pair.reference, amount))
+    }
+
+    #[tactic(auto, using(crate::proofs::Drawer::written_holds))]
+    fn write(&mut self, pair: Pair, amount: Amount) {
+        change_voucher(self.vouchers, pair, amount);
     }
 }
 
@@ -166,13 +164,13 @@ impl Host for VoucherDrawer<'_> {
         ensures means { PutMeans heard_puts (drawer_held self.old) (drawer_assent self.old) (drawer_held self.new) pair.card pair.reference amount result }
         ensures rows { self.new.vouchers.now ≡ vouchers_after self.old.vouchers.now pair.card pair.reference amount }
     {
-        put_voucher(self.vouchers, pair, amount)
+        keeper::put(self, pair, amount)
     }
 
     fn read(&mut self, pair: Pair) -> ReadReply
         ensures means { ReadMeans heard_reads (drawer_held self.old) (drawer_held self.new) pair.card pair.reference result }
         ensures same { self.new ≡ self.old }
     {
-        ReadReply::Holds(self.held(pair))
+        keeper::read(self, pair)
     }
 }

@@ -3,7 +3,7 @@
 #![tactic(auto)]
 
 use anyhow::anyhow;
-use fields::record::{Record, first_record};
+use fields::record::Records;
 use gateway::Gateway;
 use host::Host;
 use hosts::account_book::{Account, AccountBook, Hold};
@@ -27,19 +27,10 @@ fn handle<H: Host>(rt: &impl Print, gateway: &mut Gateway<H>, message: &[u8]) ->
 }
 
 fn run<H: Host>(rt: &impl Print, gateway: &mut Gateway<H>, input: &[u8]) -> io::Result<()> {
-    let mut rest = input;
-    // Each record takes a byte at least.
-    for _ in 0..input.len() {
-        match first_record(rest) {
-            Record::End => break,
-            Record::Cut => {
-                println!(rt; "cut")?;
-                break;
-            }
-            Record::Whole(message, after) => {
-                handle(rt, gateway, message)?;
-                rest = after;
-            }
+    for record in Records::new(input) {
+        match record {
+            Ok(message) => handle(rt, gateway, message)?,
+            Err(cut) => println!(rt; "{cut}")?,
         }
     }
     Ok(())

@@ -4,88 +4,89 @@
 use fields::field;
 use fields::field::Field;
 use fields::kind::Kind;
-use fields::record::{Record, first_record};
-use fields::refusal::Refusal;
-use std::io;
+use fields::record::Records;
 use std::io::Read;
+use std::{fmt, io};
 use wire::message::Fields;
-use wire::{open, write};
+use wire::{STRIP, open, write};
 
-// As long as the digit strip has to be, and a buffer for the longest record.
-const STRIP: usize = 19;
-
+// A buffer for the longest record.
 const LONGEST: usize = 255;
 
 // How many digits of a card are shown.
 const SHOWN: u64 = 10_000;
 
-fn hexadecimal(rt: &impl Print, bytes: &[u8]) -> io::Result<()> {
-    for byte in bytes {
-        print!(rt; "{byte:02x}")?;
+#[derive(Clone, Copy)]
+struct Hexadecimal<'a>(&'a [u8]);
+
+impl fmt::Display for Hexadecimal<'_> {
+    fn fmt<W: fmt::Write>(&self, f: &mut fmt::Formatter<W>) -> fmt::Result {
+        for byte in self.0 {
+            write!(f, "{byte:02x}")?;
+        }
+        Ok(())
     }
-    Ok(())
 }
 
-// The last four digits, a star for each before them.
-fn masked(rt: &impl Print, card: u64) -> io::Result<()> {
-    let mut hidden = card / SHOWN;
-    while hidden > 0 {
-        print!(rt; "*")?;
-        hidden /= 10;
+// The last four digits of a card, a star for each before them.
+#[derive(Clone, Copy)]
+struct Masked(u64);
+
+impl fmt::Display for Masked {
+    fn fmt<W: fmt::Write>(&self, f: &mut fmt::Formatter<W>) -> fmt::Result {
+        let hidden = (self.0 / SHOWN).checked_ilog10().map_or(0, |tens| tens + 1);
+        for _ in 0..hidden {
+            f.write_str("*")?;
+        }
+        write!(f, "{:04}", self.0 % SHOWN)
     }
-    let last = card % SHOWN;
-    print!(rt; "{last:04}")
 }
 
-fn money(rt: &impl Print, pence: u64) -> io::Result<()> {
-    let pounds = pence / 100;
-    let rest = pence % 100;
-    print!(rt; "£{pounds}.{rest:02} ({pence} pence)")
+// Pence, and the pounds that they come to.
+#[derive(Clone, Copy)]
+struct Money(u64);
+
+impl fmt::Display for Money {
+    fn fmt<W: fmt::Write>(&self, f: &mut fmt::Formatter<W>) -> fmt::Result {
+        let pence = self.0;
+        write!(f, "£{}.{:02} ({pence} pence)", pence / 100, pence % 100)
+    }
 }
 
-// Only the fields that the kind has.
-fn show(rt: &impl Print, kind: Kind, fields: &Fields) -> io::Result<()> {
-    let name = kind.name();
-    let request = fields.request;
-    let course = fields.course;
-    print!(rt; "{name}, request {request}, course {course}")?;
-    if kind.has(Field::Xid) {
-        print!(rt; ", XID ")?;
-        hexadecimal(rt, &fields.xid)?;
+// A message of this kind: only the fields that the kind has.
+#[derive(Clone, Copy)]
+struct Shown<'a>(Kind, &'a Fields);
+
+impl fmt::Display for Shown<'_> {
+    fn fmt<W: fmt::Write>(&self, f: &mut fmt::Formatter<W>) -> fmt::Result {
+        let Shown(kind, fields) = self;
+        write!(
+            f,
+            "{}, request {}, course {}",
+            kind.name(),
+            fields.request,
+            fields.course
+        )?;
+        if kind.has(Field::Xid) {
+            write!(f, ", XID {}", Hexadecimal(&fields.xid))?;
+        }
+        if kind.has(Field::Card) {
+            write!(f, ", card {}", Masked(fields.card))?;
+        }
+        if kind.has(Field::Amount) {
+            write!(f, ", amount {}", Money(fields.amount))?;
+        }
+        if kind.has(Field::Batch) {
+            write!(f, ", batch {}", fields.batch)?;
+        }
+        write!(f, "; {} fields", field::count(kind.map()))
     }
-    if kind.has(Field::Card) {
-        print!(rt; ", card ")?;
-        masked(rt, fields.card)?;
-    }
-    if kind.has(Field::Amount) {
-        print!(rt; ", amount ")?;
-        money(rt, fields.amount)?;
-    }
-    if kind.has(Field::Batch) {
-        let batch = fields.batch;
-        print!(rt; ", batch {batch}")?;
-    }
-    let count = field::count(kind.map());
-    print!(rt; "; {count} fields")
 }
 
-fn show_written(rt: &impl Print, fields: &Fields, message: &[u8]) -> io::Result<()> {
+// Whether writing the fields again gives the message.
+fn is_written_as(fields: &Fields, message: &[u8]) -> bool {
     let mut buffer = [0u8; LONGEST];
-    let again = match write(fields, &mut buffer) {
-        Ok(length) => length <= LONGEST && &buffer[0..length] == message,
-        Err(_) => false,
-    };
-    if again {
-        println!(rt; "; written again, the same bytes")
-    } else {
-        println!(rt; "; written again, OTHER BYTES")
-    }
-}
-
-fn show_refusal(rt: &impl Print, refusal: Refusal) -> io::Result<()> {
-    let code = refusal.number();
-    let reason = refusal.reason();
-    println!(rt; "refused {code}: {reason}")
+    write(fields, &mut buffer).is_ok_and(|length| buffer.get(..length) == Some(message))
 }
 
 // Whether the message was opened.
@@ -93,15 +94,17 @@ fn show_record(rt: &impl Print, message: &[u8]) -> io::Result<bool> {
     let mut strip = [0u8; STRIP];
     match open(message, &mut strip) {
         Err(refusal) => {
-            show_refusal(rt, refusal)?;
+            println!(rt; "refused {}: {}", refusal.number(), refusal.reason())?;
             Ok(false)
         }
         Ok(opened) => {
             let fields = opened.fields();
-            if let Some(kind) = Kind::from_number(fields.kind) {
-                show(rt, kind, &fields)?;
-            }
-            show_written(rt, &fields, message)?;
+            let again = if is_written_as(&fields, message) {
+                "the same bytes"
+            } else {
+                "OTHER BYTES"
+            };
+            println!(rt; "{}; written again, {again}", Shown(opened.kind(), &fields))?;
             Ok(true)
         }
     }
@@ -110,26 +113,19 @@ fn show_record(rt: &impl Print, message: &[u8]) -> io::Result<bool> {
 fn main(rt: HostRuntime) -> io::Result<()> {
     let mut input = Vec::new(rt.alloc());
     rt.stdin().read_to_end(&mut input)?;
-    let mut rest = input.as_slice();
     let mut opened = 0usize;
     let mut refused = 0usize;
-    // Each record takes a byte at least.
-    for number in 1..=input.len() {
-        match first_record(rest) {
-            Record::End => break,
-            Record::Cut => {
-                println!(rt; "{number} cut")?;
-                break;
-            }
-            Record::Whole(message, after) => {
+    for (number, record) in (1u64..).zip(Records::new(input.as_slice())) {
+        match record {
+            Ok(message) => {
                 print!(rt; "{number} ")?;
                 if show_record(&rt, message)? {
                     opened = opened.saturating_add(1);
                 } else {
                     refused = refused.saturating_add(1);
                 }
-                rest = after;
             }
+            Err(cut) => println!(rt; "{number} {cut}")?,
         }
     }
     println!(rt; "opened {opened}, refused {refused}")
