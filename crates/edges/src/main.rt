@@ -90,6 +90,7 @@ fn inquiry(request: u64, name: u8) -> Fields {
     }
 }
 
+// A front end lends the strip and the answer's buffer: each program has its own.
 fn handle<H: Host>(gateway: &mut Gateway<H>, message: &[u8]) -> Handled {
     let mut strip = [0u8; STRIP];
     let mut answer = [0u8; FULL_LENGTH];

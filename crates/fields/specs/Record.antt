@@ -26,10 +26,11 @@ records_to zero bytes = []
 records_to (suc n) [] = []
 records_to (suc n) (long ∷ rest) = option_map_or (λ parts. Some parts.0 ∷ records_to n parts.1) (cut_at long rest) (None ∷ [])
 
--- each record takes a byte at least
+-- the records of a file, each of a byte at least
 abbrev pub records_in : List ℕ → List (Option (List ℕ))
 records_in bytes = records_to (length bytes) bytes
 
+-- those of what is left to go over
 abbrev pub records_left : Records → List (Option (List ℕ))
 records_left records = records_in records.rest.now
 

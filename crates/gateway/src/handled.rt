@@ -7,7 +7,8 @@ use fields::refusal::Refusal;
 use rules::outcome::Performed;
 use std::fmt;
 
-#[derive(Clone, Copy)]
+// Three cases that differ in what was done, and a print of their own, which a `Result` could not be given here.
+#[derive(Clone, Copy, PartialEq, Eq, Debug)]
 pub enum Handled {
     /// The answer buffer or the digit strip is too short: nothing was done, and nothing was written.
     NoRoom,
@@ -25,7 +26,7 @@ impl fmt::Display for Handled {
         match *self {
             Handled::NoRoom => write!(f, "1 -"),
             Handled::Short(refusal) => {
-                let code = refusal.number();
+                let code = u8::from(refusal);
                 write!(f, "{code} -")
             }
             Handled::Full(Kind::BatchClose, performed) => {

@@ -64,7 +64,7 @@ impl<H: Host> Gateway<H> {
                 Handled::Full(kind, self.answer_full(opened, answer))
             }
             Err(refusal) => {
-                let _ = write_short(refusal.number(), answer);
+                let _ = write_short(u8::from(refusal), answer);
                 Handled::Short(refusal)
             }
         }

@@ -19,6 +19,7 @@ const ACCOUNT: Account = Account {
 
 const HOLDS: usize = 4;
 
+// A front end lends the strip and the answer's buffer: each program has its own.
 fn handle<H: Host>(rt: &impl Print, gateway: &mut Gateway<H>, message: &[u8]) -> io::Result<()> {
     let mut strip = [0u8; STRIP];
     let mut answer = [0u8; FULL_LENGTH];

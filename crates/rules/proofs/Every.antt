@@ -1,41 +1,39 @@
 -- A test that every row passes, after a row is looked up, rewritten or added.
-use Rattle.std.proofs.Common.{◌≡◌, Bool, true, false, cond, List, [], ◌∷◌, ◌++◌, Some, None, sym, refl, ap, ◌∙◌}
+use Rattle.std.proofs.Common.{◌≡◌, ◌&&◌, Bool, true, false, cond, List, [], ◌∷◌, ◌++◌, Some, None, sym, refl, ap, ◌∙◌}
+use Rattle.std.proofs.lemmas.List.Folds.{list_all-append}
 use Rattle.std.proofs.lemmas.Bool.{and_parts, and_from}
+use Rattle.std.specs.List.{list_all}
 use Rattle.rows.specs.First.{row_with, update_first}
-use Rattle.rules.specs.Sound.{every}
 
 module _ {R : Type 0} (test : R → Bool) where
   -- a row that is found passes
-  pub every_row : (sought : R → Bool) (rows : List R) (row : R) → every test rows ≡ true → row_with sought rows ≡ Some row → test row ≡ true
+  pub every_row : (sought : R → Bool) (rows : List R) (row : R) → list_all test rows ≡ true → row_with sought rows ≡ Some row → test row ≡ true
   every_row sought [] row all is = cc
   every_row sought (x ∷ rows) row all is =
       elim (sought x) as (λ t. cond t (Some x) (row_with sought rows) ≡ Some row → test row ≡ true) [
-        | true ↦ λ here. let same : x ≡ row = cc in ap test (sym same) ∙ (and_parts (test x) (every test rows) all).0
-        | false ↦ λ later. every_row sought rows row (and_parts (test x) (every test rows) all).1 later
+        | true ↦ λ here. let same : x ≡ row = cc in ap test (sym same) ∙ (and_parts (test x) (list_all test rows) all).0
+        | false ↦ λ later. every_row sought rows row (and_parts (test x) (list_all test rows) all).1 later
       ] is
 
   -- they pass with one more that does, or with one rewritten to such
-  pub every_push : (rows : List R) (row : R) → every test rows ≡ true → test row ≡ true → every test (rows ++ row ∷ []) ≡ true
-  every_push [] row all ok = and_from (test row) true ok refl
-  every_push (x ∷ rows) row all ok =
-      let both = and_parts (test x) (every test rows) all in
-      and_from (test x) (every test (rows ++ row ∷ [])) both.0 (every_push rows row both.1 ok)
+  pub every_push : (rows : List R) (row : R) → list_all test rows ≡ true → test row ≡ true → list_all test (rows ++ row ∷ []) ≡ true
+  every_push rows row all ok = list_all-append test rows (row ∷ []) ∙ and_from (list_all test rows) (test row && true) all (and_from (test row) true ok refl)
 
-  pub every_update : (sought : R → Bool) (rows : List R) (row : R) → every test rows ≡ true → test row ≡ true → every test (update_first sought (λ _. row) rows) ≡ true
+  pub every_update : (sought : R → Bool) (rows : List R) (row : R) → list_all test rows ≡ true → test row ≡ true → list_all test (update_first sought (λ _. row) rows) ≡ true
   every_update sought [] row all ok = refl
   every_update sought (x ∷ rows) row all ok =
-      let both = and_parts (test x) (every test rows) all in
-      elim (sought x) as (λ t. every test (cond t (row ∷ rows) (x ∷ update_first sought (λ _. row) rows)) ≡ true) [
-        | true ↦ and_from (test row) (every test rows) ok both.1
-        | false ↦ and_from (test x) (every test (update_first sought (λ _. row) rows)) both.0 (every_update sought rows row both.1 ok)
+      let both = and_parts (test x) (list_all test rows) all in
+      elim (sought x) as (λ t. list_all test (cond t (row ∷ rows) (x ∷ update_first sought (λ _. row) rows)) ≡ true) [
+        | true ↦ and_from (test row) (list_all test rows) ok both.1
+        | false ↦ and_from (test x) (list_all test (update_first sought (λ _. row) rows)) both.0 (every_update sought rows row both.1 ok)
       ]
 
   -- and they pass a weaker test
-  pub every_weaker : (weak : R → Bool) → ((row : R) → test row ≡ true → weak row ≡ true) → (rows : List R) → every test rows ≡ true → every weak rows ≡ true
+  pub every_weaker : (weak : R → Bool) → ((row : R) → test row ≡ true → weak row ≡ true) → (rows : List R) → list_all test rows ≡ true → list_all weak rows ≡ true
   every_weaker weak so [] all = refl
   every_weaker weak so (x ∷ rows) all =
-      let both = and_parts (test x) (every test rows) all in
-      and_from (weak x) (every weak rows) (so x both.0) (every_weaker weak so rows both.1)
+      let both = and_parts (test x) (list_all test rows) all in
+      and_from (weak x) (list_all weak rows) (so x both.0) (every_weaker weak so rows both.1)
 
 -- a row rewritten by what it becomes
 pub update_const : {R : Type 0} (sought : R → Bool) (f : R → R) (rows : List R) (row : R) → row_with sought rows ≡ Some row → update_first sought (λ _. f row) rows ≡ update_first sought f rows

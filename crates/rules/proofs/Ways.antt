@@ -1,6 +1,7 @@
 -- The ways that a message can go, each with what the books know of it, and the kinds that it can have.
 use Rattle.std.proofs.Common.{◌≡◌, ℕ, zero, suc, ◌<◌, ◌≤◌, Bool, true, false, cond, not, ◌&&◌, ◌||◌, eqb, leb, List, [], ◌∷◌, length, Some, None, Option, sym, refl, ap, ◌∙◌, subst, arith}
 use Rattle.std.proofs.lemmas.Bool.{and_parts, and_from, cond-true, cond-false, true≢false, both_ways, leb-true, leb-false, le-leb, ne_eqb, not-true}
+use Rattle.std.specs.List.{list_all}
 use Rattle.fields.specs.Kind.{is_kind, kind_number}
 use Rattle.fields.specs.declared.kind.Kind.{Kind}
 use Rattle.fields.specs.declared.kind.Kind.TheVariants.{AuthReq, AuthRevReq, BatchClose, BatchOpen, CapReq, CapRevReq, CredReq, CredRevReq, Inquiry}
@@ -105,8 +106,7 @@ abbrev within : Outcome → Bool
 within o = leb 10 (outcome_code o) && leb (outcome_code o) 23
 
 abbrev all_within : List Check → Bool
-all_within [] = true
-all_within (row ∷ rows) = within row.outcome && all_within rows
+all_within rows = list_all (λ row. within row.outcome) rows
 
 -- then so has what they refuse with
 refused_within : (k : ℕ) (rows : List Check) → all_within rows ≡ true → (o : Outcome) → refusal k rows ≡ Some o → within o ≡ true

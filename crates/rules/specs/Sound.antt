@@ -1,5 +1,6 @@
 -- What always holds of the rows of the books, so that no sum wraps and no difference goes below 0.
-use Rattle.std.specs.Prelude.{ℕ, suc, ◌*◌, Bool, true, ◌&&◌, List, [], ◌∷◌, ℤ, pos, negsuc, nat_le}
+use Rattle.std.specs.Prelude.{ℕ, suc, ◌*◌, Bool, ◌&&◌, List, ℤ, pos, negsuc, nat_le}
+use Rattle.std.specs.List.{list_all}
 use Rattle.rules.specs.declared.batch.Batch.{Batch}
 use Rattle.rules.specs.declared.purchase.Purchase.{Purchase}
 
@@ -11,13 +12,8 @@ most_pence = 99999999
 abbrev pub sound_purchase : Purchase → Bool
 sound_purchase p = nat_le p.credited p.captured && nat_le p.captured most_pence
 
--- each row passes a test
-abbrev pub every : {R : Type 0} → (R → Bool) → List R → Bool
-every test [] = true
-every test (row ∷ rows) = test row && every test rows
-
 abbrev pub all_sound : List Purchase → Bool
-all_sound purchases = every sound_purchase purchases
+all_sound purchases = list_all sound_purchase purchases
 
 -- so many messages move a total by at most so much
 abbrev pub most_total : ℕ → ℕ
@@ -31,4 +27,4 @@ abbrev pub within : ℕ → Batch → Bool
 within most b = nat_le (size b.total) most
 
 abbrev pub all_within : ℕ → List Batch → Bool
-all_within most batches = every (within most) batches
+all_within most batches = list_all (within most) batches

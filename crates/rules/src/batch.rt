@@ -9,6 +9,7 @@ use wire::message::Fields;
 pub struct Batch {
     pub course: u32,
     pub number: u32,
+    // beside the total and not in an enum with it: a closed batch keeps its total, and answers it
     pub closed: bool,
     // captures and credit reversals less credits and capture reversals, in pence
     pub total: i64,
@@ -38,6 +39,7 @@ impl Keyed for Batch {
 
     ghost same = { λ b key. of_batch key.course key.number b };
 
+    // by the two fields: a key made of them to be compared is no shorter
     fn has(&self, key: &BatchKey) -> bool {
         self.course == key.course && self.number == key.number
     }

@@ -4,7 +4,7 @@ ghost use Rattle.std.specs.Option.{unwrap_or};
 ghost use Rattle.fields.specs.Kind.{kind_number};
 ghost use Rattle.rules.specs.Checks.{book_checks, check, refusal, refuses, row_of};
 ghost use Rattle.rules.specs.Outcome.{outcome_code};
-ghost use Rattle.rules.specs.Ledger.{no_batch, no_purchase};
+ghost use Rattle.rules.specs.Ledger.{no_purchase};
 
 use crate::batch::Batch;
 use crate::facts::{ANSWERS, BATCHES, Facts, PURCHASES};
@@ -36,12 +36,6 @@ pub fn purchase_or_none(found: Option<Purchase>) -> Purchase
     ensures { result ≡ unwrap_or found no_purchase }
 {
     found.unwrap_or(NO_PURCHASE)
-}
-
-fn batch_or_none(found: Option<Batch>) -> Batch
-    ensures { result ≡ unwrap_or found no_batch }
-{
-    found.unwrap_or(NO_BATCH)
 }
 
 // What of the capture is not credited yet.
@@ -103,7 +97,7 @@ fn book_checks(f: &Facts, m: &Fields) -> [Row; 19]
     ensures { map row_of result ≡ book_checks f.now m.now }
 {
     let p = purchase_or_none(f.purchase);
-    let b = batch_or_none(f.batch);
+    let b = f.batch.unwrap_or(NO_BATCH);
     let known = f.purchase.is_some();
     [
         check(MemoryFull, REMEMBERED, f.answers >= ANSWERS),

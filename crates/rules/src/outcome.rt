@@ -1,4 +1,4 @@
-// What performing a message came to.
+// What performing a message came to. Success is an outcome like the others and no Ok, since it is answered by its code.
 ghost use Rattle.std.specs.Prelude.{◌≡◌};
 ghost use Rattle.std.specs.Int.{w64};
 ghost use Rattle.std.proofs.Common.{to_z};
@@ -35,7 +35,8 @@ impl From<Outcome> for u8 {
     }
 }
 
-// What a message is answered: how it came out, and an amount in pence, in two's complement where it is a batch total.
+// What a message is answered: how it came out, and an amount in pence, in two's complement where it is a batch total:
+// one number and no enum, since the eight bytes of an answer carry it as it is.
 #[derive(Clone, Copy, PartialEq, Eq, Debug)]
 pub struct Performed {
     pub outcome: Outcome,

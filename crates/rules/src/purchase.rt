@@ -10,10 +10,11 @@ pub struct Purchase {
     pub xid: Xid,
     pub course: u32,
     pub card: Card,
+    // numbers and no Option: nothing authorised and an amount of 0 are one case to every check
     pub authorised: u64,
     pub captured: u64,
     pub credited: u64,
-    // the batch of the capture, 0 before any
+    // the batch of the capture, 0 before any; it stays where the capture is reversed, so the two are no Option
     pub batch: u32,
     // the amount asked of a host that was silent, while it is not known whether the host acted
     pub doubt: Option<u64>,

@@ -1,13 +1,26 @@
 -- The decimal digits of a card number, written from the last to the first.
-use Rattle.std.proofs.Common.{◌≡◌, ℕ, zero, suc, ◌+◌, ◌-◌, ◌*◌, ◌/◌, ◌%◌, ◌^◌, ◌<◌, ◌≤◌, List, [], ◌∷◌, ◌++◌, length, get_or, take, drop, set, replicate, sym, refl, ap, ◌∙◌, arith, length-set}
+use Rattle.std.proofs.Common.{◌≡◌, ℕ, zero, suc, ◌+◌, ◌-◌, ◌*◌, ◌/◌, ◌%◌, ◌^◌, ◌<◌, ◌≤◌, List, [], ◌∷◌, ◌++◌, length, get_or, take, drop, set, replicate, sym, refl, ap, ◌∙◌, ⊎_elim, pow-suc, add-one, arith, length-set}
 use lib.Arith.{digits_div, digits_mod}
+use native.Mathlib.Nat.{pow-le-pow_right}
 use lib.ListN.{length-replicate}
 use Rattle.std.specs.Int.Digits.{digits_of, number_from_digits as number, AllBelowBase}
-use Rattle.std.proofs.lemmas.Int.Digits.{digits_of_step, length-digits_of_step, length-digits_of-le, all_below_base_digits_of, first_digits_of, number_push, number_after_ge}
+use Rattle.std.proofs.lemmas.Int.Digits.{digits_of_step, length-digits_of_step, length-digits_of-le, all_below_base_digits_of, number_digits_of, number_lt, number_push, number_after_ge}
 use Rattle.std.proofs.ByRecursion.{All-append, All-weaker, All-get_or, All-take}
-use Rattle.std.proofs.lemmas.List.{append_assoc, drop-set, drop-replicate, nil_from_length, take_at, length-take-le, get_or-take}
+use Rattle.std.proofs.lemmas.List.{append_assoc, drop-set, drop-replicate, nil_from_length, length-take-le, get_or-take}
+use Rattle.std.proofs.lemmas.Bool.{cases_lt}
 use Rattle.wire.specs.Card.{filled}
 use Rattle.wire.proofs.Numbers.{ends}
+
+-- a number between two powers of ten has one digit more than the lower power says
+pub digits_counted : (n k : ℕ) → 10 ^ k ≤ n → n < 10 * 10 ^ k → k + 1 ≡ length (digits_of 10 n)
+digits_counted n k least most =
+    let above : n < 10 ^ (k + 1) = rw (add-one, pow-suc) (omega arith) in
+    let upper = length-digits_of-le 10 (k + 1) n (omega arith) above in
+    let own : n < 10 ^ length (digits_of 10 n) = rw (number_digits_of 10 n (omega arith)) at (number_lt 10 (digits_of 10 n) (all_below_base_digits_of 10 n (omega arith))) in
+    ⊎_elim
+    (λ more. omega arith)
+    (λ fewer. let ten : 0 < 10 = omega arith in let up : 10 ^ length (digits_of 10 n) ≤ 10 ^ k = pow-le-pow_right ten fewer in absurd (omega arith))
+    (cases_lt k (length (digits_of 10 n)))
 
 -- a number of 64 bits has at most twenty digits
 pub digits_few : (n : ℕ) → n < 2 ^ 64 → length (digits_of 10 n) ≤ 20
@@ -70,14 +83,6 @@ filled_under n =
     All-append (λ h. h < 16) (digits_of 10 n) (replicate (20 - length (digits_of 10 n)) 15)
     (All-weaker (λ d. d < 10) (λ h. h < 16) (λ d digit. omega arith) (digits_of 10 n) (all_below_base_digits_of 10 n (omega arith)))
     (fill_under (20 - length (digits_of 10 n)))
-
--- the front of the halves is the digits, as the code cuts it
-pub filled_front : (n count : ℕ) → count ≡ length (digits_of 10 n) → take (count - 0) (filled (digits_of 10 n)) ≡ digits_of 10 n
-filled_front n count are = take_at (digits_of 10 n) (replicate (20 - length (digits_of 10 n)) 15) (count - 0) (omega arith)
-
--- the first digit of a number that has digits is not 0
-pub digits_lead : (n : ℕ) → 0 < length (digits_of 10 n) → 0 < get_or (digits_of 10 n) 0 0
-digits_lead n some = first_digits_of 10 n (omega arith) (digits_some n some)
 
 -- a number whose first digit is not 0 is not 0
 number_above : (ds : List ℕ) → 0 < get_or ds 0 0 → 0 < number 10 ds

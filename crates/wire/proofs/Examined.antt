@@ -1,5 +1,5 @@
 -- The checks of the content, 6 and 7, once the frame is right.
-use Rattle.std.proofs.Common.{◌≡◌, ℕ, Bool, true, false, cond, not, ◌&&◌, List, [], take, drop, is_some, Some, None, Ok, Err, Option, sym, refl, ap, ◌∙◌, arith}
+use Rattle.std.proofs.Common.{◌≡◌, ℕ, Bool, true, false, cond, not, ◌&&◌, List, [], take, drop, is_some, Some, None, Ok, Err, Option, sym, refl, ap, ◌∙◌}
 use Rattle.std.specs.Int.Digits.{number_from_digits}
 use Rattle.wire.specs.Card.{well_packed, card_number}
 use Rattle.wire.specs.Checks.{first_failing, unless}
@@ -11,18 +11,13 @@ use Rattle.wire.specs.Writing.{trimmed, writing_checks}
 use Rattle.fields.specs.declared.kind.Kind.{Kind}
 use Rattle.wire.specs.declared.message.Fields.{Fields}
 use Rattle.wire.specs.declared.parts.Parts.{Parts}
-use Rattle.wire.proofs.Chains.{after_passed, before_failed, passes, fails}
+use Rattle.wire.proofs.Chains.{after_passed, before_failed, passes}
 use Rattle.wire.proofs.Halves.{found_one}
 use Rattle.wire.proofs.Opens.{passed, trimmed_is, accepted_is}
 use Rattle.wire.proofs.Pieces.{piece_lacking}
 
 pub refused_frame : (b : List ℕ) (n : ℕ) → first_failing (take 4 (opening_checks b)) ≡ Some n → opening b ≡ Err n
 refused_frame b n failed = ap (λ o. unless o (message_in b)) (before_failed (take 4 (opening_checks b)) (drop 4 (opening_checks b)) n failed)
-
-no_card : (s w : Bool) (n : ℕ) → None ≡ cond s (cond w (Some n) None) (Some 0) → (s && not w) ≡ true
-no_card true true n is = let z : ◌≡◌ {A = ℕ} 0 1 = cc in absurd (omega arith)
-no_card true false n is = refl
-no_card false w n is = let z : ◌≡◌ {A = ℕ} 0 1 = cc in absurd (omega arith)
 
 -- the fields, with the card's number found
 abbrev pub fields_with : Parts → ℕ → Fields
@@ -49,11 +44,6 @@ module _ (b : List ℕ) (k : Kind) (f : Framed b k) (p : Parts) (read : p ≡ pa
   at_card : first_failing (opening_checks b) ≡ first_failing (drop 4 (opening_checks b))
   at_card = after_passed (take 4 (opening_checks b)) (drop 4 (opening_checks b)) f.passed
 
-  pub refused_card : None ≡ found_in (map_of (kind_number k)) p.card → opening b ≡ Err 6
-  refused_card is =
-      ap (λ o. unless o (message_in b))
-      (at_card ∙ fails 6 _ (drop 5 (opening_checks b)) (no_card (stands (map_in b) 4) (well_packed card_part) (card_number card_part) (own None is)))
-
   module _ (card : ℕ) (is : Some card ≡ found_in (map_of (kind_number k)) p.card) where
     right : ((stands (map_in b) 4 && not (well_packed card_part)) ≡ false) × (card ≡ cond (stands (map_in b) 4) (card_number card_part) 0)
     right = found_one (stands (map_in b) 4) (well_packed card_part) (card_number card_part) 0 card (own (Some card) is)
@@ -73,9 +63,6 @@ module _ (b : List ℕ) (k : Kind) (f : Framed b k) (p : Parts) (read : p ≡ pa
     own_amount = ap (λ n. not (amount_allowed n (number_from_digits 256 (piece_in (map_in b) b 5)))) (sym f.numbered) ∙ ap (λ q. not (amount_allowed (kind_number k) q.amount)) (sym read)
 
     module _ (allows : Bool) (told : allows ≡ amount_allowed (kind_number k) p.amount) where
-      pub refused_for_amount : allows ≡ false → opening b ≡ Err 7
-      refused_for_amount over = ap (λ o. unless o (message_in b)) (at_amount ∙ fails 7 _ [] (own_amount ∙ ap not (sym told ∙ over)))
-
       pub none_refused : allows ≡ true → first_failing (opening_checks b) ≡ None
       none_refused within = at_amount ∙ passes 7 _ [] (own_amount ∙ ap not (sym told ∙ within))
 

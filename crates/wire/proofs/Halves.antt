@@ -1,10 +1,10 @@
 -- The halves of a card's ten bytes: split, counted and put together again.
-use Rattle.std.proofs.Common.{◌≡◌, ℕ, zero, suc, ◌+◌, ◌-◌, ◌*◌, ◌/◌, ◌%◌, ◌^◌, ◌<◌, ◌≤◌, Bool, true, false, cond, not, ◌&&◌, eqb, ltb, leb, List, [], ◌∷◌, ◌++◌, length, get_or, take, drop, set, Some, None, sym, refl, ap, ◌∙◌, arith, length-drop, length-set}
-use native.Mathlib.Nat.{pow-le-pow_right}
-use Rattle.std.proofs.lemmas.List.{append_assoc, at_drop_more, take_more, take_more_set, get_or-take, take_all}
-use Rattle.std.proofs.lemmas.Bool.{and_parts, cond-true, cond-false, cond_both, lt-ltb, le-ltb, ltb-true, leb-true}
+use Rattle.std.proofs.Common.{◌≡◌, ℕ, zero, suc, ◌+◌, ◌-◌, ◌*◌, ◌/◌, ◌%◌, ◌<◌, ◌≤◌, Bool, true, false, cond, not, ◌&&◌, ltb, leb, List, [], ◌∷◌, ◌++◌, length, get_or, take, drop, set, replicate, Some, None, Option, sym, refl, ap, ◌∙◌, arith, length-set}
+use Rattle.std.proofs.Math.Bool.{and-true}
+use Rattle.std.proofs.lemmas.List.{append_assoc, take_more, take_more_set, drop_at}
+use Rattle.std.proofs.lemmas.Bool.{and_parts, cond-true, cond_both, lt-ltb, ltb-true, leb-true}
 use Rattle.std.specs.Int.Digits.{AllBelowBase}
-use Rattle.wire.specs.Card.{halves, digits_in, only_fill, card_shaped, well_filled, pairs}
+use Rattle.wire.specs.Card.{halves, digits_in, only_fill, card_shaped, well_filled, pairs, filled}
 
 halves_push : (bs : List ℕ) (b : ℕ) → halves (bs ++ b ∷ []) ≡ halves bs ++ b / 16 ∷ b % 16 ∷ []
 halves_push [] b = refl
@@ -26,36 +26,52 @@ halves_more bs all i within room before =
     ∙ sym (halves_push (take i bs) b)
     ∙ ap halves (sym (take_more bs i 0 within))
 
--- the digits from place i on: none where no digit stands there, else one more than from the next place on
-pub digits_stop : (hs : List ℕ) (i : ℕ) → i < length hs → 10 ≤ get_or hs i 0 → digits_in (drop i hs) ≡ []
-digits_stop hs i within none = at_drop_more digits_in hs i 0 within ∙ cond-false _ _ _ (le-ltb (get_or hs i 0) 10 none)
-
-pub digits_go : (hs : List ℕ) (i : ℕ) → i < length hs → get_or hs i 0 < 10 → length (digits_in (drop i hs)) ≡ length (digits_in (drop (i + 1) hs)) + 1
-digits_go hs i within digit =
-    ap length (at_drop_more digits_in hs i 0 within ∙ cond-true _ _ _ (lt-ltb (get_or hs i 0) 10 digit)) ∙ omega arith
-
-pub fill_step : (hs : List ℕ) (i : ℕ) → i < length hs → only_fill (drop i hs) ≡ (eqb (get_or hs i 0) 15 && only_fill (drop (i + 1) hs))
-fill_step hs i within = at_drop_more only_fill hs i 0 within
-
 pub digits_front : (hs : List ℕ) → digits_in hs ≡ take (length (digits_in hs)) hs
 digits_front [] = refl
 digits_front (h ∷ hs) =
     elim (ltb h 10) as (λ t. cond t (h ∷ digits_in hs) [] ≡ take (length (cond t (h ∷ digits_in hs) [])) (h ∷ hs))
     [ true ↦ ap (λ ds. h ∷ ds) (digits_front hs) | false ↦ refl ]
 
-pub digits_first : (hs : List ℕ) → 0 < length (digits_in hs) → get_or (digits_in hs) 0 0 ≡ get_or hs 0 0
-digits_first hs some = ap (λ ds. get_or ds 0 0) (digits_front hs) ∙ get_or-take (length (digits_in hs)) hs 0 0 some
-
--- the part of the halves after the digits, as the code cuts it
-pub fill_part : (hs : List ℕ) (count n : ℕ) → length hs ≡ n → count ≡ length (digits_in hs) →
-    only_fill (take (n - count) (drop count hs)) ≡ only_fill (drop (length (digits_in hs)) hs)
-fill_part hs count n long are =
-    ap only_fill (take_all (n - count) (drop count hs) (simp length-drop (omega arith))) ∙ ap (λ k. only_fill (drop k hs)) are
+-- the digits are no more than the halves
+pub digits_within : (hs : List ℕ) → length (digits_in hs) ≤ length hs
+digits_within [] = omega arith
+digits_within (h ∷ hs) = cond_both (ltb h 10) (h ∷ digits_in hs) [] (λ ds. length ds ≤ suc (length hs)) (λ _. omega (arith, digits_within hs)) (λ _. omega arith)
 
 pub digits_under : (hs : List ℕ) → AllBelowBase 10 (digits_in hs)
 digits_under [] = tt
 digits_under (h ∷ hs) =
     cond_both (ltb h 10) (h ∷ digits_in hs) [] (AllBelowBase 10) (λ digit. (ltb-true h 10 digit, digits_under hs)) (λ _. tt)
+
+-- digits filled up with F are found again
+is_fill : (n : ℕ) → only_fill (replicate n 15) ≡ true
+is_fill zero = refl
+is_fill (suc n) = is_fill n
+
+digits_before : (ds : List ℕ) (n : ℕ) → AllBelowBase 10 ds → digits_in (ds ++ replicate n 15) ≡ ds
+digits_before [] zero under = refl
+digits_before [] (suc n) under = refl
+digits_before (d ∷ ds) n under = cond-true (ltb d 10) _ _ (lt-ltb d 10 under.0) ∙ ap (λ xs. d ∷ xs) (digits_before ds n under.1)
+
+pub digits_filled : (ds : List ℕ) → AllBelowBase 10 ds → digits_in (filled ds) ≡ ds
+digits_filled ds under = digits_before ds (20 - length ds) under
+
+pub shaped_filled : (ds : List ℕ) → AllBelowBase 10 ds → well_filled (filled ds) ≡ card_shaped ds
+shaped_filled ds under =
+    let fill : only_fill (drop (length (digits_in (filled ds))) (filled ds)) ≡ true =
+    ap (λ xs. only_fill (drop (length xs) (filled ds))) (digits_filled ds under)
+    ∙ ap only_fill (drop_at ds (replicate (20 - length ds) 15) (length ds) refl)
+    ∙ is_fill (20 - length ds) in
+    ap (λ t. card_shaped (digits_in (filled ds)) && t) fill
+    ∙ and-true (card_shaped (digits_in (filled ds)))
+    ∙ ap card_shaped (digits_filled ds under)
+
+-- so looking for a card's digits there finds just these, where they are shaped as a card's
+pub found_filled : (ds all : List ℕ) (found : Option (List ℕ)) → AllBelowBase 10 ds → all ≡ filled ds → found ≡ cond (well_filled all) (Some (digits_in all)) None → found ≡ cond (card_shaped ds) (Some ds) None
+found_filled ds all found under are told =
+    told
+    ∙ ap (λ hs. cond (well_filled hs) (Some (digits_in hs)) None) are
+    ∙ ap (λ t. cond t (Some (digits_in (filled ds))) None) (shaped_filled ds under)
+    ∙ ap (λ xs. cond (card_shaped ds) (Some xs) None) (digits_filled ds under)
 
 pub some_when : {A : Type 0} (b : Bool) (x y : A) → Some x ≡ cond b (Some y) None → (b ≡ true) × (x ≡ y)
 some_when true x y e = (refl, cc)
@@ -68,27 +84,22 @@ found_one true true value none found is = (refl, cc)
 found_one true false value none found is = let z : ◌≡◌ {A = ℕ} 0 1 = cc in absurd (omega arith)
 found_one false is_right value none found is = (refl, cc)
 
--- what is known once the digits have been found
-pub record Found (bytes all : List ℕ) (count : ℕ) : Type 0 where
+-- what is known once the digits have been found in the halves of ten bytes
+pub record Found (bytes digits : List ℕ) : Type 0 where
   pub filled : well_filled (halves bytes) ≡ true
-  pub part : take (count - 0) all ≡ digits_in (halves bytes)
-  pub few : length (digits_in (halves bytes)) ≤ 19
+  pub are : digits ≡ digits_in (halves bytes)
+  pub few : length digits ≤ 19
 
-pub found : (bytes all : List ℕ) (count : ℕ) → all ≡ halves bytes → Some count ≡ cond (well_filled all) (Some (length (digits_in all))) None → Found bytes all count
-found bytes all count split is =
-    let both = some_when (well_filled all) count (length (digits_in all)) is in
+pub found : (bytes all digits : List ℕ) → all ≡ halves bytes → Some digits ≡ cond (well_filled all) (Some (digits_in all)) None → Found bytes digits
+found bytes all digits split is =
+    let both = some_when (well_filled all) digits (digits_in all) is in
     let shaped = (and_parts (card_shaped (digits_in all)) (only_fill (drop (length (digits_in all)) all)) both.0).0 in
     let bounds = and_parts (leb (length (digits_in all)) 19) _ (and_parts (leb 13 (length (digits_in all))) _ shaped).1 in
-    let same : count - 0 ≡ length (digits_in all) = omega (arith, both.1) in
     record {
       filled = ap well_filled (sym split) ∙ both.0;
-      part = ap (λ n. take n all) same ∙ sym (digits_front all) ∙ ap digits_in split;
-      few = rw (← split) (leb-true (length (digits_in all)) 19 bounds.0);
+      are = both.1 ∙ ap digits_in split;
+      few = rw both.1 (leb-true (length (digits_in all)) 19 bounds.0);
     }
-
--- ten to the power of 19 fits 64 bits
-pub tens_fit : (n : ℕ) → n ≤ 19 → 10 ^ n ≤ 2 ^ 64
-tens_fit n few = let pos : 0 < 10 = omega arith in let up : 10 ^ n ≤ 10 ^ 19 = pow-le-pow_right pos few in omega (arith, up)
 
 abbrev twice : ℕ → ℕ
 twice zero = 0

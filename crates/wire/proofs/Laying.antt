@@ -1,6 +1,5 @@
 -- Fields laid out one after the other: what stands in the buffer after each.
-use Rattle.std.proofs.Common.{◌≡◌, ℕ, zero, suc, ◌+◌, ◌/◌, ◌%◌, true, false, cond, List, [], ◌∷◌, ◌++◌, length, get_or, take, drop, sym, refl, ap, ◌∙◌, arith, length-append}
-use borrow.Rule.Slice.PartMut.{put_mid}
+use Rattle.std.proofs.Common.{◌≡◌, ℕ, zero, suc, ◌+◌, true, false, cond, List, [], ◌++◌, length, get_or, take, drop, sym, refl, ap, ◌∙◌, arith, length-append}
 use Rattle.std.proofs.lemmas.List.{append_assoc, append-nil, drop-drop, take_at, drop_at}
 use Rattle.std.proofs.lemmas.Bool.{cond-true, cond-false, cond_both}
 use Rattle.wire.specs.Bytes.{bytes_of}
@@ -8,19 +7,6 @@ use Rattle.fields.specs.Field.{width, stands, widths_to, place, length_under}
 use Rattle.wire.specs.Layout.{pieces, placed, joined_to, laid}
 use Rattle.fields.proofs.Places.{reserved_width}
 use Rattle.wire.specs.declared.parts.Parts.{Parts}
-
--- as the code writes it
-pub put_is : (map bit at k : ℕ) (piece written buffer : List ℕ) → stands map bit ≡ true → at ≡ place map bit → k ≡ width bit → written ≡ piece → put_mid at k buffer written ≡ placed map bit piece buffer
-put_is map bit at k piece written buffer there is wide same =
-    ap (λ w. take at buffer ++ (w ++ drop k (drop at buffer))) same
-    ∙ ap (λ xs. take at buffer ++ (piece ++ xs)) (drop-drop k at buffer)
-    ∙ ap (λ n. take n buffer ++ (piece ++ drop (n + k) buffer)) is
-    ∙ ap (λ n. take (place map bit) buffer ++ (piece ++ drop (place map bit + n) buffer)) wide
-    ∙ sym (cond-true (stands map bit) _ _ there)
-
-pub length_bytes_of : (w n : ℕ) → length (bytes_of w n) ≡ w
-length_bytes_of zero n = refl
-length_bytes_of (suc w) n = length-append (bytes_of w (n / 256)) (n % 256 ∷ []) ∙ omega (arith, length_bytes_of w (n / 256))
 
 -- what stands before the field of bit n
 abbrev pub front : ℕ → List (List ℕ) → ℕ → List ℕ

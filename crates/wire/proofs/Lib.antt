@@ -2,8 +2,6 @@ pub mod Accepted
 pub mod Chains
 pub mod Decimals
 pub mod Examined
-pub mod Fills
-pub mod Frames
 pub mod Halves
 pub mod Inverse
 pub mod Laying
@@ -14,4 +12,3 @@ pub mod Packing
 pub mod Pieces
 pub mod Reading
 pub mod Trips
-pub mod Writes

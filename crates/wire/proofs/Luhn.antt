@@ -7,8 +7,8 @@ use Rattle.wire.specs.Card.{weight, luhn_sum}
 pub weight_small : (left digit : ℕ) → digit < 256 → weight left digit ≤ 300
 weight_small left digit byte = cond_both (eqb (left % 2) 1) (2 * digit / 10 + 2 * digit % 10) digit (λ w. w ≤ 300) (λ _. omega arith) (λ _. omega arith)
 
-pub luhn_more : (ds : List ℕ) (i left : ℕ) → i < length ds → left + i ≡ length ds → luhn_sum (drop i ds) ≡ weight (left - 1) (get_or ds i 0) + luhn_sum (drop (i + 1) ds)
-luhn_more ds i left within are =
-    let rest : length (drop (i + 1) ds) ≡ left - 1 = length-drop (i + 1) ds ∙ omega arith in
+pub luhn_more : (ds : List ℕ) (i : ℕ) → i < length ds → luhn_sum (drop i ds) ≡ weight (length ds - 1 - i) (get_or ds i 0) + luhn_sum (drop (i + 1) ds)
+luhn_more ds i within =
+    let rest : length (drop (i + 1) ds) ≡ length ds - 1 - i = length-drop (i + 1) ds ∙ omega arith in
     at_drop_more luhn_sum ds i 0 within ∙
     ap (λ n. weight n (get_or ds i 0) + luhn_sum (drop (i + 1) ds)) rest

@@ -1,38 +1,23 @@
 -- Numbers written in digits of a fixed count: no digit is lost, and the number does not outgrow its bound.
-use Rattle.std.proofs.Common.{◌≡◌, ℕ, zero, suc, ◌+◌, ◌*◌, ◌/◌, ◌%◌, ◌^◌, ◌<◌, ◌≤◌, ◌⊎◌, List, [], ◌∷◌, ◌++◌, length, get_or, take, sym, ap, ◌∙◌, ⊎_elim, pow-suc, add-one, arith}
+use Rattle.std.proofs.Common.{◌≡◌, ℕ, zero, suc, ◌+◌, ◌*◌, ◌/◌, ◌%◌, ◌^◌, ◌<◌, ◌≤◌, List, [], ◌∷◌, ◌++◌, length, get_or, take, sym, ap, ◌∙◌, pow-suc, arith, rules}
 use native.Mathlib.Nat.{pow-zero, pow-le-pow_right}
-use lib.Arith.{digits_lt, digits_div, digits_mod, lt-one}
+use lib.Arith.{digits_div, digits_mod, lt-one}
 use Rattle.std.specs.Int.Digits.{number_from_digits, AllBelowBase}
-use Rattle.std.proofs.lemmas.Int.Digits.{number_more, number_push}
+use Rattle.std.proofs.lemmas.Int.Digits.{number_lt, number_more, number_push}
 use Rattle.std.proofs.ByRecursion.{All-get_or, All-take}
 use Rattle.std.proofs.lemmas.Nat.{div_below, div-add-mod'}
 use Rattle.std.proofs.lemmas.List.{nil_from_length, length-take-le, take_all, take_more}
+use Rattle.std.specs.Int.{to_be_bytes, from_be_bytes, w32, w64}
 use Rattle.wire.specs.Bytes.{bytes_of}
 
--- a byte is below the base: always where the base is 256
-pub digit_small : (base : ℕ) (digits : List ℕ) (i : ℕ) → (256 ≤ base) ⊎ AllBelowBase base digits → get_or digits i 0 < 256 → i < length digits → get_or digits i 0 < base
-digit_small base digits i under byte within = ⊎_elim (λ wide. omega arith) (λ u. All-get_or (λ d. d < base) digits i 0 within u) under
-
--- the number of the first i digits, which cannot outgrow base ^ i
-abbrev pub SoFar : ℕ → List ℕ → ℕ → ℕ → Type 0
-SoFar base digits i value = (value ≡ number_from_digits base (take i digits)) × (value < base ^ i)
-
-module _ (base : ℕ) (digits : List ℕ) (i value digit : ℕ) (read : digit ≡ get_or digits i 0) (small : get_or digits i 0 < base) (within : i < length digits) (before : SoFar base digits i value) where
-  below : value * base + digit < base ^ (i + 1)
-  below = rw (add-one, pow-suc) (digits_lt before.1 (rw read small))
-
-  -- one digit more
-  pub so_far_more : SoFar base digits (i + 1) (value * base + digit)
-  so_far_more =
-      (ap (λ v. v * base + digit) before.0 ∙ ap (λ d. number_from_digits base (take i digits) * base + d) read ∙ sym (number_more base digits i within), below)
-
-  -- and it fits as long as the whole does
-  pub so_far_fits : 1 < base → base ^ length digits ≤ 2 ^ 64 → value * base + digit < 2 ^ 64
-  so_far_fits above fits =
-      let pos : 0 < base = omega arith in
-      let reach : i + 1 ≤ length digits = omega arith in
-      let up : base ^ (i + 1) ≤ base ^ length digits = pow-le-pow_right pos reach in
-      omega (arith, below)
+-- the number of the first i + 1 of at most 19 decimal digits fits 64 bits
+pub so_far_fits : (digits : List ℕ) (i : ℕ) → i < length digits → length digits ≤ 19 → AllBelowBase 10 digits → number_from_digits 10 (take i digits) * 10 + get_or digits i 0 < 2 ^ 64
+so_far_fits digits i within few under =
+    let bound = number_lt 10 (take (i + 1) digits) (All-take (λ d. d < 10) (i + 1) digits under) in
+    let ten : 0 < 10 = omega arith in
+    let short : length (take (i + 1) digits) ≤ 19 = rw (length-take-le (i + 1) digits (omega arith)) (omega arith) in
+    let up : 10 ^ length (take (i + 1) digits) ≤ 10 ^ 19 = pow-le-pow_right ten short in
+    omega (arith, bound, up, number_more 10 digits i within)
 
 -- a list of n + 1 elements ends in its last one
 pub ends : (xs : List ℕ) (n : ℕ) → length xs ≡ suc n → xs ≡ take n xs ++ get_or xs n 0 ∷ []
@@ -63,3 +48,42 @@ bytes_of_number (suc w) bs long under =
     ∙ ap (λ d. bytes_of w (number_from_digits 256 (take w bs)) ++ d ∷ []) low
     ∙ ap (λ xs. xs ++ last ∷ []) (bytes_of_number w (take w bs) (length-take-le w bs (omega arith)) (All-take (λ b. b < 256) w bs under))
     ∙ sym split
+
+-- std's bytes of a number are these
+pub spelled_4 : (n : ℕ) → to_be_bytes w32 n ≡ bytes_of 4 n
+spelled_4 n = search rules
+
+pub spelled_8 : (n : ℕ) → to_be_bytes w64 n ≡ bytes_of 8 n
+spelled_8 n = search rules
+
+-- what std reads of as many bytes is the number that they write
+module _ (bs : List ℕ) (n : ℕ) where
+  abbrev up_to : ℕ → ℕ
+  up_to i = number_from_digits 256 (take i bs)
+
+  more : (i w : ℕ) → length bs ≡ w → i < w → up_to (i + 1) ≡ up_to i * 256 + get_or bs i 0
+  more i w long within = number_more 256 bs i (omega arith)
+
+  whole : (w : ℕ) → length bs ≡ w → up_to w ≡ number_from_digits 256 bs
+  whole w long = ap (number_from_digits 256) (take_all w bs (omega arith))
+
+  pub read_1 : length bs ≡ 1 → n ≡ get_or bs 0 0 → n ≡ number_from_digits 256 bs
+  read_1 long is = omega (arith, more 0 1 long (omega arith), whole 1 long)
+
+  pub read_4 : length bs ≡ 4 → n ≡ from_be_bytes w32 bs → n ≡ number_from_digits 256 bs
+  read_4 long is = omega (arith, more 0 4 long (omega arith), more 1 4 long (omega arith), more 2 4 long (omega arith), more 3 4 long (omega arith), whole 4 long)
+
+  pub read_8 : length bs ≡ 8 → n ≡ from_be_bytes w64 bs → n ≡ number_from_digits 256 bs
+  read_8 long is =
+      omega (
+        arith,
+        more 0 8 long (omega arith),
+        more 1 8 long (omega arith),
+        more 2 8 long (omega arith),
+        more 3 8 long (omega arith),
+        more 4 8 long (omega arith),
+        more 5 8 long (omega arith),
+        more 6 8 long (omega arith),
+        more 7 8 long (omega arith),
+        whole 8 long,
+      )

@@ -5,11 +5,10 @@ use lib.ListN.{length-replicate}
 use Rattle.std.specs.Int.Digits.{number_from_digits, digits_of, AllBelowBase}
 use Rattle.std.proofs.lemmas.Nat.{div-add-mod'}
 use Rattle.std.proofs.lemmas.Int.Digits.{number_digits_of, all_below_base_digits_of}
-use Rattle.std.proofs.lemmas.List.{drop_at}
-use Rattle.std.proofs.lemmas.Bool.{and_parts, and_from, eqb-true, cond-true, lt-ltb, leb-true}
+use Rattle.std.proofs.lemmas.Bool.{and_parts, and_from, eqb-true, leb-true}
 use Rattle.wire.specs.Card.{halves, digits_in, only_fill, card_shaped, well_filled, passes_luhn, well_packed, is_card, card_number, pairs, filled, packed}
 use Rattle.wire.proofs.Decimals.{filled_under}
-use Rattle.wire.proofs.Halves.{digits_front}
+use Rattle.wire.proofs.Halves.{digits_front, digits_filled, shaped_filled}
 use Rattle.wire.proofs.Opens.{card_digits}
 
 -- bytes into halves and back
@@ -48,15 +47,6 @@ fill_is (h ∷ hs) fill =
     let both = and_parts (eqb h 15) (only_fill hs) fill in
     ap (λ x. x ∷ hs) (eqb-true h 15 both.0) ∙ ap (λ xs. 15 ∷ xs) (fill_is hs both.1)
 
-is_fill : (n : ℕ) → only_fill (replicate n 15) ≡ true
-is_fill zero = refl
-is_fill (suc n) = is_fill n
-
-digits_before : (ds : List ℕ) (n : ℕ) → AllBelowBase 10 ds → digits_in (ds ++ replicate n 15) ≡ ds
-digits_before [] zero under = refl
-digits_before [] (suc n) under = refl
-digits_before (d ∷ ds) n under = cond-true (ltb d 10) _ _ (lt-ltb d 10 under.0) ∙ ap (λ xs. d ∷ xs) (digits_before ds n under.1)
-
 -- ten bytes that hold a card are those that its number is packed into
 pub packed_number : (bytes : List ℕ) → length bytes ≡ 10 → well_packed bytes ≡ true → packed (card_number bytes) ≡ bytes
 packed_number bytes ten well =
@@ -94,18 +84,13 @@ module _ (card : ℕ) (is : is_card (digits_of 10 card) ≡ true) where
   packed_ten = (length_pairs 10 (filled ds) long).0
 
   digits_back : digits_in (halves (packed card)) ≡ ds
-  digits_back = ap digits_in unpacked ∙ digits_before ds (20 - length ds) (all_below_base_digits_of 10 card (omega arith))
+  digits_back = ap digits_in unpacked ∙ digits_filled ds (all_below_base_digits_of 10 card (omega arith))
 
   -- a card number that was packed is well packed, and is unpacked again
   pub packed_well : well_packed (packed card) ≡ true
   packed_well =
-      let fill : only_fill (drop (length (digits_in (halves (packed card)))) (halves (packed card))) ≡ true =
-      ap (λ xs. only_fill (drop (length xs) (halves (packed card)))) digits_back
-      ∙ ap (λ xs. only_fill (drop (length ds) xs)) unpacked
-      ∙ ap only_fill (drop_at ds (replicate (20 - length ds) 15) (length ds) refl)
-      ∙ is_fill (20 - length ds) in
       and_from (well_filled (halves (packed card))) (passes_luhn (digits_in (halves (packed card))))
-      (and_from (card_shaped (digits_in (halves (packed card)))) _ (ap card_shaped digits_back ∙ shaped) fill)
+      (ap well_filled unpacked ∙ shaped_filled ds (all_below_base_digits_of 10 card (omega arith)) ∙ shaped)
       (ap passes_luhn digits_back ∙ (and_parts (card_shaped ds) (passes_luhn ds) is).1)
 
   pub number_packed : card_number (packed card) ≡ card

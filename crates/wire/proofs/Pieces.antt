@@ -1,6 +1,5 @@
 -- The fields that a reader hands out: cut at their places, and zeros where the map lacks them.
-use Rattle.std.proofs.Common.{◌≡◌, ℕ, zero, suc, ◌+◌, ◌-◌, ◌*◌, ◌^◌, ◌<◌, ◌≤◌, true, false, cond, List, length, take, drop, replicate, Some, None, sym, refl, ap, ◌∙◌, arith, length-drop}
-use native.Mathlib.Nat.{pow-le-pow_right}
+use Rattle.std.proofs.Common.{◌≡◌, ℕ, zero, suc, ◌+◌, ◌*◌, ◌<◌, ◌≤◌, true, false, cond, List, length, take, drop, replicate, Some, None, refl, ap, ◌∙◌, arith, length-drop}
 use lib.ListN.{length-replicate}
 use Rattle.std.proofs.lemmas.List.{length-take-le}
 use Rattle.std.specs.Int.Digits.{number_from_digits, number_from_digits_after}
@@ -20,12 +19,6 @@ piece_there map bytes bit there = cond-true (stands map bit) _ _ there
 
 pub piece_lacking : (map : ℕ) (bytes : List ℕ) (bit : ℕ) → stands map bit ≡ false → piece_in map bytes bit ≡ replicate (width bit) 0
 piece_lacking map bytes bit lacking = cond-false (stands map bit) _ _ lacking
-
--- as the code cuts it
-pub piece_cut : (map : ℕ) (bytes : List ℕ) (bit at wide : ℕ) → stands map bit ≡ true → at ≡ place map bit → wide ≡ width bit → take ((at + wide) - at) (drop at bytes) ≡ piece_in map bytes bit
-piece_cut map bytes bit at wide there is are =
-    let same : (at + wide) - at ≡ width bit = omega (arith, are) in
-    ap (λ n. take n (drop at bytes)) same ∙ ap (λ n. take (width bit) (drop n bytes)) is ∙ sym (piece_there map bytes bit there)
 
 -- zeros write the number 0
 zeros_after : (base n : ℕ) → number_from_digits_after base 0 (replicate n 0) ≡ 0
@@ -54,9 +47,6 @@ bit_small Card = omega arith
 bit_small Amount = omega arith
 bit_small Batch = omega arith
 bit_small Code = omega arith
-
-pub bytes_fit : (n : ℕ) → n ≤ 8 → 256 ^ n ≤ 2 ^ 64
-bytes_fit n few = let pos : 0 < 256 = omega arith in let up : 256 ^ n ≤ 256 ^ 8 = pow-le-pow_right pos few in omega (arith, up)
 
 -- what a reader hands out is the field, as long as its width
 pub handed : (map : ℕ) (bytes piece : List ℕ) (f : Field) → length bytes ≡ length_under map → Some piece ≡ cond (stands map (bit_of f)) (Some (piece_in map bytes (bit_of f))) None →

@@ -10,6 +10,10 @@ use Rattle.fields.specs.declared.kind.Kind.TheVariants.{AuthReq, AuthRevReq, Cap
 pub as_first : {X : Type 0} (F : ℕ → List ℕ → X) (k k₀ : Kind) (m m₀ : List ℕ) → (m ≡ m₀) × (k ≡ k₀) → F (map_of (kind_number k)) m ≡ F (map_of (kind_number k₀)) m₀
 as_first F k k₀ m m₀ same = ap (λ x. F (map_of (kind_number x)) m) same.1 ∙ ap (F (map_of (kind_number k₀))) same.0
 
+-- and still are after one field more
+pub still : {k₀ k₁ k₂ : Kind} {m₀ m₁ m₂ : List ℕ} → (m₂ ≡ m₁) × (k₂ ≡ k₁) → (m₁ ≡ m₀) × (k₁ ≡ k₀) → (m₂ ≡ m₀) × (k₂ ≡ k₀)
+still more before = (more.0 ∙ before.0, more.1 ∙ before.1)
+
 -- a kind's map has no bit beyond the eighth, so its ones are the first eight fields
 pub ones_of_kind : (k : Kind) → fields_to (map_of (kind_number k)) 8 ≡ ones (map_of (kind_number k))
 unfolding ones

@@ -1,5 +1,6 @@
 -- A card: 13 to 19 decimal digits, the first not 0, that pass the Luhn check; and how ten bytes hold it.
-use Rattle.std.specs.Prelude.{ℕ, ◌+◌, ◌-◌, ◌*◌, ◌/◌, ◌%◌, Bool, true, cond, ◌&&◌, List, [], ◌∷◌, ◌++◌, length, drop, replicate, ◌==◌, nat_le, nat_lt, slice_index}
+use Rattle.std.specs.Prelude.{ℕ, ◌+◌, ◌-◌, ◌*◌, ◌/◌, ◌%◌, Bool, cond, ◌&&◌, List, [], ◌∷◌, ◌++◌, length, drop, replicate, ◌==◌, nat_le, nat_lt, slice_index}
+use Rattle.std.specs.List.{list_all}
 use Rattle.std.specs.Int.Digits.{number_from_digits, digits_of}
 
 -- what a digit counts in the Luhn sum: counted from the last digit every second one is doubled,
@@ -32,8 +33,7 @@ digits_in (h ∷ hs) = cond (nat_lt h 10) (h ∷ digits_in hs) []
 
 -- only F from here on
 abbrev pub only_fill : List ℕ → Bool
-only_fill [] = true
-only_fill (h ∷ hs) = h == 15 && only_fill hs
+only_fill hs = list_all (λ h. h == 15) hs
 
 -- the digits of a card, and F in all the halves after them
 abbrev pub well_filled : List ℕ → Bool

@@ -5,18 +5,19 @@ ghost use Rattle.wire.specs.Buffer.{over_front, length_written, numbered};
 
 use crate::lay::lay;
 use crate::parts::Parts;
+use fields::field::Map;
 use fields::refusal::Refusal;
 
 // The map of the full answer: fields 1, 2, 3, 6 and 8.
-const FULL: u16 = 0xE500;
+const FULL: Map = Map { bits: 0xE500 };
 
 // How many bytes the full answer has.
 pub const FULL_LENGTH: usize = 24;
 
 // The map of the short answer: field 8 alone.
-const SHORT: u16 = 0x0100;
+const SHORT: Map = Map { bits: 0x0100 };
 
-#[derive(Clone, Copy)]
+#[derive(Clone, Copy, PartialEq, Eq, Debug)]
 pub struct Answer {
     pub kind: u8,
     pub request: u64,
@@ -26,18 +27,20 @@ pub struct Answer {
     pub code: u8,
 }
 
-fn parts_of(answer: &Answer) -> Parts
-    ensures { result ≡ answer_parts answer.now }
-{
-    Parts {
-        kind: answer.kind,
-        request: answer.request,
-        course: answer.course,
-        xid: [0; 20],
-        card: [0; 10],
-        amount: answer.amount,
-        batch: 0,
-        code: answer.code,
+impl From<&Answer> for Parts {
+    ghost from_gives = { λ answer parts. parts ≡ answer_parts answer.now };
+
+    fn from(answer: &Answer) -> Parts {
+        Parts {
+            kind: answer.kind,
+            request: answer.request,
+            course: answer.course,
+            xid: [0; 20],
+            card: [0; 10],
+            amount: answer.amount,
+            batch: 0,
+            code: answer.code,
+        }
     }
 }
 
@@ -47,7 +50,7 @@ pub fn write_full(answer: &Answer, buffer: &mut [u8]) -> Result<usize, Refusal>
     ensures after { buffer.new ≡ over_front (full_into (length buffer.old) answer.now) buffer.old }
     ensures table { AnswersComeOut }
 {
-    lay(FULL, &parts_of(answer), buffer)
+    lay(FULL, &Parts::from(answer), buffer)
 }
 
 // Writes a short answer likewise.
@@ -62,5 +65,5 @@ pub fn write_short(code: u8, buffer: &mut [u8]) -> Result<usize, Refusal>
         amount: 0,
         code,
     };
-    lay(SHORT, &parts_of(&answer), buffer)
+    lay(SHORT, &Parts::from(&answer), buffer)
 }

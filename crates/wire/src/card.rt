@@ -1,6 +1,7 @@
 // A card: its digits packed into ten bytes, its number, and the Luhn check.
 ghost use Rattle.std.specs.Prelude.{◌≡◌, ◌≤◌, length, if◌then◌else◌, Some, None};
-ghost use Rattle.std.specs.Int.Digits.{AllBelowBase, digits_of};
+ghost use Rattle.std.specs.Option.{option_map};
+ghost use Rattle.std.specs.Int.Digits.{AllBelowBase, digits_of, number_from_digits};
 ghost use Rattle.wire.specs.Card.{weight, passes_luhn, halves, digits_in, only_fill, well_filled, is_card, pairs, filled, packed};
 
 // How many digits a card has at least and at most.
@@ -28,10 +29,8 @@ pub fn passes_luhn(digits: &[u8]) -> bool
     ensures { result ≡ passes_luhn digits.now }
 {
     let mut sum: u128 = 0;
-    let mut left = digits.len();
-    for digit in digits {
-        left -= 1;
-        sum += luhn_weight(*digit, left);
+    for (i, digit) in digits.iter().enumerate() {
+        sum += luhn_weight(*digit, digits.len() - 1 - i);
     }
     sum % 10 == 0
 }
@@ -41,9 +40,9 @@ pub fn split(bytes: &[u8; 10]) -> [u8; 20]
     ensures { result ≡ halves bytes.now }
 {
     let mut all = [0; 20];
-    for i in 0..10 {
-        all[2 * i] = bytes[i] / 16;
-        all[2 * i + 1] = bytes[i] % 16;
+    for (i, byte) in bytes.iter().enumerate() {
+        all[2 * i] = *byte / 16;
+        all[2 * i + 1] = *byte % 16;
     }
     all
 }
@@ -52,65 +51,62 @@ pub fn split(bytes: &[u8; 10]) -> [u8; 20]
 fn count_digits(all: &[u8]) -> usize
     ensures { result ≡ length (digits_in all.now) }
 {
-    for (i, half) in all.iter().enumerate() {
-        if *half >= 10 {
-            return i;
-        }
-    }
-    all.len()
+    all.iter().position(|half| *half >= 10).unwrap_or(all.len())
 }
 
 fn only_fill(rest: &[u8]) -> bool
     ensures { result ≡ only_fill rest.now }
 {
-    for half in rest {
-        if *half != FILL {
-            return false;
-        }
-    }
-    true
+    rest.iter().all(|half| *half == FILL)
 }
 
-// How many digits stand in the halves, if these are shaped as a card's and F fills the rest.
-pub fn digits_of(all: &[u8; 20]) -> Option<usize>
-    ensures { result ≡ (if well_filled all.now then Some (length (digits_in all.now)) else None) }
+// The digits in the halves, if these are shaped as a card's and F fills the rest.
+pub fn digits_of(all: &[u8; 20]) -> Option<&[u8]>
+    ensures { option_map (λ digits. digits.now) result ≡ (if well_filled all.now then Some (digits_in all.now) else None) }
 {
-    let count = count_digits(all);
+    let (digits, rest) = all.split_at(count_digits(all));
+    let count = digits.len();
     if count < LEAST_DIGITS || count > MOST_DIGITS {
         return None;
     }
-    if all[0] == 0 {
+    if digits[0] == 0 {
         return None;
     }
-    if !only_fill(&all[count..20]) {
+    if !only_fill(rest) {
         return None;
     }
-    Some(count)
+    Some(digits)
+}
+
+// The number that these digits write, the highest first.
+pub fn number(digits: &[u8]) -> u64
+    requires few { length digits.now ≤ 19 }
+    requires decimal { AllBelowBase 10 digits.now }
+    ensures { result ≡ number_from_digits 10 digits.now }
+{
+    let mut value = 0;
+    for digit in digits {
+        value = value * 10 + u64::from(*digit);
+    }
+    value
 }
 
 fn count_decimal(number: u64) -> usize
     ensures { result ≡ length (digits_of 10 number) }
 {
-    let mut rest = number;
-    let mut count = 0;
-    while rest > 0 {
-        rest /= 10;
-        count += 1;
+    match number.checked_ilog10() {
+        Some(power) => power as usize + 1,
+        None => 0,
     }
-    count
 }
 
 // The digits of a number, from the last to the first, and F after them.
-fn fill(number: u64, count: usize) -> [u8; 20]
-    requires are { count ≡ length (digits_of 10 number) }
-    requires few { count ≤ 20 }
+fn fill(number: u64) -> [u8; 20]
     ensures { result ≡ filled (digits_of 10 number) }
 {
     let mut all = [FILL; 20];
     let mut rest = number;
-    let mut i = count;
-    while i > 0 {
-        i -= 1;
+    for i in (0..count_decimal(number)).rev() {
         all[i] = (rest % 10) as u8;
         rest /= 10;
     }
@@ -123,8 +119,8 @@ fn join(all: &[u8; 20]) -> [u8; 10]
     ensures { result ≡ pairs all.now }
 {
     let mut bytes = [0; 10];
-    for i in 0..10 {
-        bytes[i] = all[2 * i] * 16 + all[2 * i + 1];
+    for (i, byte) in bytes.iter_mut().enumerate() {
+        *byte = all[2 * i] * 16 + all[2 * i + 1];
     }
     bytes
 }
@@ -133,12 +129,9 @@ fn join(all: &[u8; 20]) -> [u8; 10]
 pub fn pack(number: u64) -> Option<[u8; 10]>
     ensures { result ≡ (if is_card (digits_of 10 number) then Some (packed number) else None) }
 {
-    let count = count_decimal(number);
-    if count < LEAST_DIGITS || count > MOST_DIGITS {
-        return None;
-    }
-    let all = fill(number, count);
-    if !passes_luhn(&all[0..count]) {
+    let all = fill(number);
+    let digits = digits_of(&all)?;
+    if !passes_luhn(digits) {
         return None;
     }
     Some(join(&all))

@@ -35,9 +35,9 @@ impl Opened {
     pub fn kind(&self) -> Kind
         ensures { kind_number result ≡ self.now.fields.kind }
     {
-        match Kind::from_number(self.fields.kind) {
-            Some(kind) => kind,
-            None => unreachable(),
+        match Kind::try_from(self.fields.kind) {
+            Ok(kind) => kind,
+            Err(_) => unreachable(),
         }
     }
 }

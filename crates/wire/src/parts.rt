@@ -1,5 +1,5 @@
 // What the fields of a message or an answer hold, the card still packed.
-#[derive(Clone, Copy)]
+#[derive(Clone, Copy, PartialEq, Eq, Debug)]
 pub struct Parts {
     pub kind: u8,
     pub request: u64,

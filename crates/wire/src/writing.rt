@@ -1,5 +1,5 @@
 // Writing: from the fields of a message to its bytes, or to the first check that fails.
-ghost use Rattle.std.specs.Prelude.{◌≡◌, length, replicate, if◌then◌else◌, Some, None, MatchResult};
+ghost use Rattle.std.specs.Prelude.{◌≡◌, length, replicate, if◌then◌else◌, Some, None, IfOk, IfErr, OnOk};
 ghost use Rattle.std.specs.Int.Digits.{digits_of};
 ghost use Rattle.wire.specs.Buffer.{over_front, length_written, numbered};
 ghost use Rattle.wire.specs.Card.{is_card, packed};
@@ -37,14 +37,13 @@ fn amount_of(kind: Kind, amount: u64) -> u64
 
 // The checks of the content, and what is to be laid out.
 fn checked(fields: &Fields) -> Result<(Kind, Parts), Refusal>
-    ensures { MatchResult result (λ found. (kind_number found.0 ≡ fields.now.kind) × (found.1 ≡ parts_of fields.now) × (first_failing (writing_checks fields.now) ≡ None)) (λ e. first_failing (writing_checks fields.now) ≡ Some (refusal_number e)) }
+    ensures kind { IfOk result (λ found. kind_number found.0 ≡ fields.now.kind) }
+    ensures parts { IfOk result (λ found. found.1 ≡ parts_of fields.now) }
+    ensures passed { OnOk result (first_failing (writing_checks fields.now) ≡ None) }
+    ensures refused { IfErr result (λ e. first_failing (writing_checks fields.now) ≡ Some (refusal_number e)) }
 {
-    let Some(kind) = Kind::from_number(fields.kind) else {
-        return Err(Refusal::UnknownKind);
-    };
-    let Some(card) = card_bytes(kind, fields.card) else {
-        return Err(Refusal::BadCard);
-    };
+    let kind = Kind::try_from(fields.kind)?;
+    let card = card_bytes(kind, fields.card).ok_or(Refusal::BadCard)?;
     if !kind.allows(amount_of(kind, fields.amount)) {
         return Err(Refusal::AmountNotAllowed);
     }

@@ -1,5 +1,5 @@
 // Opening: from the bytes of a message to the message, or to the first check that fails.
-ghost use Rattle.std.specs.Prelude.{◌≡◌, ◌≤◌, ◌&&◌, length, if◌then◌else◌, Some, None};
+ghost use Rattle.std.specs.Prelude.{◌≡◌, ◌≤◌, ◌&&◌, length, replicate, if◌then◌else◌, Some, None};
 ghost use Rattle.wire.specs.Answered.{answered};
 ghost use Rattle.wire.specs.Card.{well_packed, card_number};
 ghost use Rattle.fields.specs.Field.{stands};
@@ -11,35 +11,27 @@ ghost use Rattle.wire.specs.Strip.{blanked, strip_after};
 use super::Opened;
 use crate::message::Fields;
 use crate::reader;
-use crate::strip::{STRIP, Strip};
+use crate::strip::{self, STRIP, Strip};
 use fields::field::Field;
 use fields::kind::Kind;
 use fields::refusal::Refusal;
 
 // The card's number: 0 where the kind has no card, nothing where the bytes hold none.
-fn card_number(kind: Kind, bytes: &[u8; 10], strip: &mut Strip) -> Option<u64>
-    requires { 19 ≤ length strip.old.digits.now }
-    ensures value { result ≡ (if stands (map_of (kind_number kind)) 4 then (if well_packed bytes.now then Some (card_number bytes.now) else None) else Some 0) }
-    ensures after { blanked strip.new.digits.now ≡ blanked strip.old.digits.now }
-    ensures held { strip.new.digits.ghost_name ≡ strip.old.digits.ghost_name }
+fn card_number(kind: Kind, bytes: &[u8; 10], digits: &mut [u8; STRIP]) -> Option<u64>
+    ensures { result ≡ (if stands (map_of (kind_number kind)) 4 then (if well_packed bytes.now then Some (card_number bytes.now) else None) else Some 0) }
 {
     if kind.has(Field::Card) {
-        strip.card(bytes)
+        strip::card(digits, bytes)
     } else {
         Some(0)
     }
 }
 
-fn examine(message: &[u8], strip: &mut Strip) -> Result<Opened, Refusal>
-    requires { 19 ≤ length strip.old.digits.now }
-    ensures value { answered result ≡ opening message.now }
-    ensures after { blanked strip.new.digits.now ≡ blanked strip.old.digits.now }
-    ensures held { strip.new.digits.ghost_name ≡ strip.old.digits.ghost_name }
+fn examine(message: &[u8], digits: &mut [u8; STRIP]) -> Result<Opened, Refusal>
+    ensures { answered result ≡ opening message.now }
 {
     let (kind, parts) = reader::parts_of(message)?;
-    let Some(card) = card_number(kind, &parts.card, strip) else {
-        return Err(Refusal::BadCard);
-    };
+    let card = card_number(kind, &parts.card, digits).ok_or(Refusal::BadCard)?;
     if !kind.allows(parts.amount) {
         return Err(Refusal::AmountNotAllowed);
     }
@@ -56,14 +48,22 @@ fn examine(message: &[u8], strip: &mut Strip) -> Result<Opened, Refusal>
 }
 
 // Opens a message. The digits of its card stand on the strip only meanwhile: on every way out the guard blanks them.
+fn open_on(message: &[u8], digits: &mut [u8; STRIP]) -> Result<Opened, Refusal>
+    ensures value { answered result ≡ opening message.now }
+    ensures after { digits.new ≡ replicate 19 0 }
+{
+    let guard = Strip { digits };
+    examine(message, guard.digits)
+}
+
+// Opens a message on a strip, which is left alone where it is too short.
 pub fn open(message: &[u8], strip: &mut [u8]) -> Result<Opened, Refusal>
     ensures value { answered result ≡ opening_on (length strip.old) message.now }
     ensures after { strip.new ≡ strip_after strip.old }
     ensures inverse { OpeningInverts (length strip.old) message.now (answered result) }
 {
-    if strip.len() < STRIP {
-        return Err(Refusal::ShortBuffer);
+    match strip.first_chunk_mut() {
+        Some(digits) => open_on(message, digits),
+        None => Err(Refusal::ShortBuffer),
     }
-    let mut guard = Strip { digits: strip };
-    examine(message, &mut guard)
 }

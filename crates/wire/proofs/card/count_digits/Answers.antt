@@ -1,20 +1,14 @@
-use Rattle.std.proofs.Common.{length, ap, arith}
-use Rattle.std.proofs.lemmas.List.{at_drop_all}
+use Rattle.std.proofs.Common.{◌<◌, ◌≤◌, length, sym, refl, ap, ◌∙◌, arith, tests, rules}
+use Rattle.std.proofs.lemmas.Bool.{cond-true, cond-false, lt-ltb, le-ltb}
+use Rattle.std.proofs.lemmas.Iterator.{IsFirst-from_position, index_from_first, YieldsList-from_slice}
 use Rattle.wire.specs.Card.{digits_in}
-use Rattle.wire.proofs.Halves.{digits_stop, digits_go}
 use Rattle.wire.proofs.card.count_digits.Goals as goal
-
-pub returns-then-half-ge10 : goal.returns-then-half-ge10
-returns-then-half-ge10 c =
-    let none = ap length (digits_stop c.args.all.now c.loop-i.i (omega arith) c.if-half-ge10.true) in
-    omega arith
-
-pub loop-i-preserved : goal.loop-i-preserved
-loop-i-preserved c =
-    let more = digits_go c.args.all.now c.loop-i.i (omega arith) c.if-half-ge10.false in
-    omega arith
 
 pub returns : goal.returns
 returns c =
-    let none = ap length (at_drop_all digits_in c.args.all.now c.loop-i.i c.loop-i-test.false) in
-    omega arith
+    let first = IsFirst-from_position _ _ _ (λ h. 10 ≤ h) (λ h. h < 10) c.position.ensures.ran (YieldsList-from_slice c.args.all.now cc) (λ x q k. search (rules, tests)) (λ x q k. search (rules, tests)) in
+    c.unwrap_or.ensures
+    ∙ sym (index_from_first (λ hs. length (digits_in hs)) (λ h. 10 ≤ h) (λ h. h < 10) refl
+    (λ h hs none. ap length (cond-false _ _ _ (le-ltb h 10 none)))
+    (λ h hs digit. ap length (cond-true _ _ _ (lt-ltb h 10 digit)) ∙ omega arith)
+    c.args.all.now c.position.result first)

@@ -1,18 +1,15 @@
-use Rattle.std.proofs.Common.{arith}
+use Rattle.std.proofs.Common.{◌≡◌, length, take, drop, sym, ap, ◌∙◌, arith}
 use Rattle.std.proofs.lemmas.Bool.Decides.{nat_tests}
-use Rattle.wire.proofs.Halves.{digits_first, fill_part}
+use Rattle.wire.specs.Card.{digits_in}
+use Rattle.wire.proofs.Halves.{digits_front, digits_within}
 use Rattle.wire.proofs.card.digits_of.Goals as goal
 
-pub returns-then-all-eq0 : goal.returns-then-all-eq0
-returns-then-all-eq0 c = let first = digits_first c.args.all.now (omega arith) in grind (arith, nat_tests)
-
-pub returns-then-not-only_fill : goal.returns-then-not-only_fill
-returns-then-not-only_fill c =
-    let fill = fill_part c.args.all.now c.count_digits-count.result 20 c.told-all c.count_digits-count.ensures in
-    grind (arith, nat_tests)
+pub split_at-requires : goal.split_at-requires
+split_at-requires c = omega (arith, c.count_digits.ensures, digits_within c.args.all.now)
 
 pub returns : goal.returns
 returns c =
-    let first = digits_first c.args.all.now (omega arith) in
-    let fill = fill_part c.args.all.now c.count_digits-count.result 20 c.told-all c.count_digits-count.ensures in
+    let hs = c.args.all.now in
+    let front : c.split_at.result.0.now ≡ digits_in hs = c.split_at.ensures.front ∙ ap (λ n. take n hs) c.count_digits.ensures ∙ sym (digits_front hs) in
+    let back : c.split_at.result.1.now ≡ drop (length (digits_in hs)) hs = c.split_at.ensures.back ∙ ap (λ n. drop n hs) c.count_digits.ensures in
     grind (arith, nat_tests)

@@ -67,6 +67,6 @@ returns-in-Err g c =
     record {
       rules =
           refused h (no_room buffer strip) b l host buffer strip room l host buffer' strip' blank refl refl refusal is
-          (c.write_short.ensures.after ∙ ap (λ n. over_front (short_into (length buffer) n) buffer) c.number.ensures);
+          (c.write_short.ensures.after ∙ ap (λ n. over_front (short_into (length buffer) n) buffer) c.from.ensures);
       law = refused_law h (no_room buffer strip) b l host buffer strip room l host buffer' strip' blank refl refl refusal is are;
     }

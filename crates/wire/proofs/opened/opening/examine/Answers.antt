@@ -1,34 +1,27 @@
-use Rattle.std.proofs.Common.{◌≡◌, ◌<◌, get_or, is_some, Ok, sym, refl, ap, ◌∙◌, subst}
+use Rattle.std.proofs.Common.{◌≡◌, ◌<◌, get_or, is_some, Ok, sym, ap, ◌∙◌, subst}
 use Rattle.std.proofs.ByRecursion.{All-from_get_or}
 use Rattle.std.proofs.lemmas.Result.{err_from_is_err_and}
 use Rattle.wire.specs.Checks.{first_failing}
 use Rattle.wire.specs.Opening.{message_in, opening, opening_checks}
 use Rattle.wire.specs.RoundTrip.{Bytes}
-use Rattle.wire.proofs.Examined.{fields_with, refused_frame, refused_for_amount, opened_is, well_formed}
+use Rattle.wire.proofs.Examined.{fields_with, refused_frame, opened_is, well_formed}
 use Rattle.wire.proofs.Trips.{own_bytes, went_through}
 use Rattle.wire.proofs.opened.opening.examine.Goals as goal
 
 pub returns-in_err-kind : goal.returns-in_err-kind
 returns-in_err-kind c =
     let p = err_from_is_err_and c.from_residual.result c.from_residual.ensures.1 in
-    record { value = rw (p.1, p.2) (sym (refused_frame c.args.message.now _ c.in_err-kind.ensures)); after = refl; held = refl }
-
-pub returns-then-not-allows : goal.returns-then-not-allows
-returns-then-not-allows c =
-    let ok = c.in_ok-kind.ensures in
-    let refused = refused_for_amount c.args.message.now c.in_ok-kind.kind ok.0 c.in_ok-kind.parts ok.1
-    c.in-Some.card c.in-Some.ensures.value c.allows.result c.allows.ensures c.if-not-allows.true in
-    record { value = sym refused; after = c.card_number.ensures.after; held = c.card_number.ensures.held }
+    rw (p.1, p.2) (sym (refused_frame c.args.message.now _ c.in_err-kind.ensures.refused))
 
 pub invariant_of-result : goal.invariant_of-result
 invariant_of-result c =
     let ok = c.in_ok-kind.ensures in
-    let formed = well_formed c.args.message.now c.in_ok-kind.kind ok.0 c.in_ok-kind.parts ok.1
-    c.in-Some.card c.in-Some.ensures.value c.allows.result c.allows.ensures c.if-not-allows.false in
-    let m = fields_with c.in_ok-kind.parts c.in-Some.card in
     let b = c.args.message.now in
+    let m = fields_with c.in_ok-kind.parts c.in_ok-card.card in
+    let found = sym c.in_ok-card.ensures.ok_part ∙ c.card_number.ensures in
+    let formed = well_formed b c.in_ok-kind.kind ok.framed c.in_ok-kind.parts ok.parts c.in_ok-card.card found c.allows.result c.allows.ensures c.if-not-allows.false in
     let opens : opening b ≡ Ok m =
-    sym (opened_is b c.in_ok-kind.kind ok.0 c.in_ok-kind.parts ok.1 c.in-Some.card c.in-Some.ensures.value c.allows.result c.allows.ensures c.if-not-allows.false) in
+    sym (opened_is b c.in_ok-kind.kind ok.framed c.in_ok-kind.parts ok.parts c.in_ok-card.card found c.allows.result c.allows.ensures c.if-not-allows.false) in
     let are : Bytes b = All-from_get_or (λ x. x < 256) b 0 (λ i within. (c.type_inv.message i).fits) in
     let own = own_bytes b are m opens in
     let again = went_through (first_failing (opening_checks b)) (message_in b) m opens in
@@ -43,6 +36,5 @@ invariant_of-result c =
 pub returns : goal.returns
 returns c =
     let ok = c.in_ok-kind.ensures in
-    let is = opened_is c.args.message.now c.in_ok-kind.kind ok.0 c.in_ok-kind.parts ok.1
-    c.in-Some.card c.in-Some.ensures.value c.allows.result c.allows.ensures c.if-not-allows.false in
-    record { value = is; after = c.card_number.ensures.after; held = c.card_number.ensures.held }
+    let found = sym c.in_ok-card.ensures.ok_part ∙ c.card_number.ensures in
+    opened_is c.args.message.now c.in_ok-kind.kind ok.framed c.in_ok-kind.parts ok.parts c.in_ok-card.card found c.allows.result c.allows.ensures c.if-not-allows.false
