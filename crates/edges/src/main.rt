@@ -49,7 +49,7 @@ fn xid(number: u8) -> Xid {
 // A message with no field but the kind, the request number and the course.
 fn bare(kind: Kind, request: u64) -> Fields {
     Fields {
-        kind: kind.number(),
+        kind: kind.into(),
         request,
         course: COURSE,
         xid: xid(0),
@@ -99,9 +99,7 @@ fn handle<H: Host>(gateway: &mut Gateway<H>, message: &[u8]) -> Handled {
 
 // The bytes that the message is written as, at the front of the buffer.
 fn written<'b>(fields: &Fields, buffer: &'b mut [u8]) -> anyhow::Result<&'b [u8]> {
-    let Ok(length) = write(fields, buffer) else {
-        return Err(anyhow!("the writer refused a message"));
-    };
+    let length = write(fields, buffer).context("the writer refused a message")?;
     buffer
         .get(..length)
         .context("a message is longer than its buffer")

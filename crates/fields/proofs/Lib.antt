@@ -1,2 +1,2 @@
-pub mod Places
 pub mod Recorded
+pub mod Places

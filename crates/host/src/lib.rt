@@ -31,6 +31,7 @@ pub enum Fate {
 }
 
 /// What a put answers.
+// No Result: a refusal and silence are answers like done, and each prints itself as only a type of this crate can.
 #[derive(Clone, Copy, PartialEq, Eq, Debug)]
 pub enum PutReply {
     Done,
@@ -39,6 +40,7 @@ pub enum PutReply {
 }
 
 /// What a read answers.
+// No Option: it prints itself, which only a type of this crate can.
 #[derive(Clone, Copy, PartialEq, Eq, Debug)]
 pub enum ReadReply {
     Holds(Amount),

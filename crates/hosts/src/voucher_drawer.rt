@@ -26,10 +26,9 @@ impl Voucher {
         ensures { result ≡ unused self }
     {
         Voucher {
-            card: self.card,
-            face: self.face,
             reference: 0,
             held: 0,
+            ..self
         }
     }
 

@@ -1,2 +1,1 @@
-mod Marks
 mod Digits

@@ -1,5 +1,5 @@
 -- A bad line by its marks: which mark loses what, and what it makes of the fates below.
-use Rattle.std.specs.Prelude.{ℕ, cond, List, drop, ◌==◌, slice_index}
+use Rattle.std.specs.Prelude.{◌≡◌, ℕ, cond, List, drop, ◌==◌, slice_index}
 use Rattle.host.specs.declared.Fate.{Fate}
 use Rattle.host.specs.declared.Fate.TheVariants.{Heard, LostGoing, LostReturning}
 use Rattle.host.specs.Parts.{Holdings, Assents, PutFates, ReadFates}
@@ -21,6 +21,12 @@ next_fate left = mark_fate (slice_index left 0)
 abbrev pub spent : List ℕ → List ℕ
 spent left = drop 1 left
 
+-- what becomes of a call that meets a fate on the line: made below and answered, not made, or made and answered by silence
+abbrev pub Carried : {H A : Type 0} → (H → A → H → Type 0) → A → Fate → H → A → H → Type 0
+Carried call silence Heard before answer after = call before answer after
+Carried call silence LostGoing before answer after = (answer ≡ silence) × (after ≡ before)
+Carried {A = A} call silence LostReturning before answer after = (answer ≡ silence) × ((lost : A) × call before lost after)
+
 -- a fate below, as it is through the line
 abbrev answer_lost : Fate → Fate
 answer_lost Heard = LostReturning
@@ -34,7 +40,7 @@ through LostReturning below = answer_lost below
 
 -- the marks that a line has left
 abbrev pub marks_left : {H : Type 0} → BadLine H → List ℕ
-marks_left line = drop line.next line.marks
+marks_left line = line.marks.items
 
 -- its four parts, from those of the host below
 abbrev pub line_held : {H : Type 0} → (H → Holdings) → BadLine H → Holdings

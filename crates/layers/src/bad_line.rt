@@ -1,10 +1,12 @@
 //! A line that loses calls or answers, over any host.
 ghost use Rattle.std.specs.Prelude.{◌≡◌, take, drop};
+ghost use Rattle.std.specs.Fn.{FnOnceReturnsAtMut};
 ghost use Rattle.host.specs.Meaning.{PutMeans, ReadMeans};
 ghost use Rattle.host.specs.Parts.{NothingWhere};
 ghost use Rattle.host.specs.declared.Fate.TheVariants.{LostGoing};
-ghost use Rattle.layers.specs.Line.{line_assent, line_held, line_put_fate, line_read_fate, mark_fate, marks_left, most_marks, next_fate, spent};
+ghost use Rattle.layers.specs.Line.{Carried, line_assent, line_held, line_put_fate, line_read_fate, mark_fate, marks_left, most_marks, next_fate, spent};
 
+use arrayvec::ArrayVec;
 use host::{Amount, Fate, Host, Pair, PutReply, ReadReply};
 
 /// The most marks that a line takes.
@@ -20,12 +22,12 @@ pub const LOSES_ANSWER: u8 = 2;
 #[derive(Drop)]
 pub struct BadLine<H> {
     below: H,
-    // they end at the array's end, so that those from `next` on are what is left
-    marks: [u8; MARKS],
-    next: usize,
+    // those that are left, the next one first
+    marks: ArrayVec<u8, MARKS>,
 }
 
 /// What a mark does to a call that meets it.
+// Marks are bytes that a caller lends, of any value, so there is no enum of them and no conversion that fails.
 fn mark_fate(mark: u8) -> Fate
     ensures { result ≡ mark_fate mark }
 {
@@ -36,17 +38,6 @@ fn mark_fate(mark: u8) -> Fate
     }
 }
 
-/// The first marks of the list at an array's end, and the place where they begin.
-fn copy_marks(marks: &[u8]) -> ([u8; MARKS], usize)
-    ensures { drop result.1 result.0 ≡ take most_marks marks.now }
-{
-    let count = marks.len().min(MARKS);
-    let next = MARKS - count;
-    let mut copied = [0; MARKS];
-    copied[next..].copy_from_slice(&marks[0..count]);
-    (copied, next)
-}
-
 impl<H: Host> BadLine<H> {
     /// A line over the host, with the first marks of the list, at most as many as it takes.
     pub fn new(below: H, marks: &[u8]) -> BadLine<H>
@@ -54,8 +45,11 @@ impl<H: Host> BadLine<H> {
         ensures marks { marks_left result ≡ take most_marks marks.now }
         ensures nothing { NothingWhere (H.Host.held below) (line_held H.Host.held result) }
     {
-        let (marks, next) = copy_marks(marks);
-        BadLine { below, marks, next }
+        let count = MARKS.min(marks.len());
+        let mut left = ArrayVec::new();
+        // there is room for so many, so none is refused
+        let _ = left.try_extend_from_slice(&marks[..count]);
+        BadLine { below, marks: left }
     }
 
     /// Spends the next mark, and says what it does to the call.
@@ -64,12 +58,24 @@ impl<H: Host> BadLine<H> {
         ensures marks { marks_left self.new ≡ spent (marks_left self.old) }
         ensures below { self.new.below ≡ self.old.below }
     {
-        if self.next >= MARKS {
-            return Fate::Heard;
+        self.marks.pop_at(0).map_or(Fate::Heard, mark_fate)
+    }
+
+    /// Spends the next mark on the call, and makes it below unless the mark loses it; a call that is
+    /// lost, or whose answer is, answers silence.
+    fn carry<A: Drop, F: FnOnce(&mut H) -> A + Drop>(&mut self, call: F, silence: A) -> A
+        requires { F.IsAlwaysCallable call }
+        ensures marks { marks_left self.new ≡ spent (marks_left self.old) }
+        ensures below { Carried (FnOnceReturnsAtMut F.FnOnce call) silence (next_fate (marks_left self.old)) self.old.below result self.new.below }
+    {
+        match self.spend() {
+            Fate::Heard => call(&mut self.below),
+            Fate::LostGoing => silence,
+            Fate::LostReturning => {
+                drop(call(&mut self.below));
+                silence
+            }
         }
-        let mark = self.marks[self.next];
-        self.next += 1;
-        mark_fate(mark)
     }
 }
 
@@ -95,14 +101,7 @@ impl<H: Host> Host for BadLine<H> {
         ensures marks { marks_left self.new ≡ spent (marks_left self.old) }
         ensures uncalled { next_fate (marks_left self.old) ≡ LostGoing → self.new.below ≡ self.old.below }
     {
-        match self.spend() {
-            Fate::Heard => self.below.put(pair, amount),
-            Fate::LostGoing => PutReply::Silent,
-            Fate::LostReturning => {
-                let _ = self.below.put(pair, amount);
-                PutReply::Silent
-            }
-        }
+        self.carry(|below| below.put(pair, amount), PutReply::Silent)
     }
 
     fn read(&mut self, pair: Pair) -> ReadReply
@@ -110,13 +109,6 @@ impl<H: Host> Host for BadLine<H> {
         ensures marks { marks_left self.new ≡ spent (marks_left self.old) }
         ensures uncalled { next_fate (marks_left self.old) ≡ LostGoing → self.new.below ≡ self.old.below }
     {
-        match self.spend() {
-            Fate::Heard => self.below.read(pair),
-            Fate::LostGoing => ReadReply::Silent,
-            Fate::LostReturning => {
-                let _ = self.below.read(pair);
-                ReadReply::Silent
-            }
-        }
+        self.carry(|below| below.read(pair), ReadReply::Silent)
     }
 }

@@ -49,7 +49,7 @@ impl<L, R> RangeSplit<L, R> {
         ensures { result ≡ is_left self.now card }
     {
         let front = leading_six(card);
-        self.low <= front && front <= self.high
+        (self.low..=self.high).contains(&front)
     }
 }
 
@@ -69,6 +69,7 @@ impl<L: Host, R: Host> RangeSplit<L, R> {
     }
 }
 
+// One `if` in `put` and one in `read`: the sides differ in type, and a `dyn` lent from either would hide which one changed.
 impl<L: Host, R: Host> Host for RangeSplit<L, R> {
     ghost held = { split_held L.Host.held R.Host.held };
 

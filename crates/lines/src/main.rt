@@ -17,6 +17,7 @@ use std::io;
 
 type Bank<'a, 'h, 'v> = RangeSplit<BadLine<AccountBook<'a, 'h>>, VoucherDrawer<'v>>;
 
+// Card and reference stand apart here, so that each call is one short line of the table.
 #[derive(Clone, Copy)]
 enum Call {
     Put(Card, Reference, Amount),

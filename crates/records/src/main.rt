@@ -1,7 +1,6 @@
 // Reads a file of records from standard input, opens each message, writes it again, and prints a line for each.
 #![tactic(auto)]
 
-use fields::field;
 use fields::field::Field;
 use fields::kind::Kind;
 use fields::record::Records;
@@ -62,10 +61,8 @@ impl fmt::Display for Shown<'_> {
         let Shown(kind, fields) = self;
         write!(
             f,
-            "{}, request {}, course {}",
-            kind.name(),
-            fields.request,
-            fields.course
+            "{kind}, request {}, course {}",
+            fields.request, fields.course
         )?;
         if kind.has(Field::Xid) {
             write!(f, ", XID {}", Hexadecimal(&fields.xid))?;
@@ -79,7 +76,7 @@ impl fmt::Display for Shown<'_> {
         if kind.has(Field::Batch) {
             write!(f, ", batch {}", fields.batch)?;
         }
-        write!(f, "; {} fields", field::count(kind.map()))
+        write!(f, "; {} fields", kind.map().count())
     }
 }
 
@@ -94,7 +91,7 @@ fn show_record(rt: &impl Print, message: &[u8]) -> io::Result<bool> {
     let mut strip = [0u8; STRIP];
     match open(message, &mut strip) {
         Err(refusal) => {
-            println!(rt; "refused {}: {}", refusal.number(), refusal.reason())?;
+            println!(rt; "refused {}: {refusal}", u8::from(refusal))?;
             Ok(false)
         }
         Ok(opened) => {

@@ -77,12 +77,6 @@ module _ {R : Type 0} (test : R → Bool) where
   first_set (x ∷ xs) zero y d e = rw e refl
   first_set (x ∷ xs) (suc place) y d e = ap (λ answer. cond (test x) (Some 0) (option_map suc answer)) (first_set xs place y d e)
 
-  -- one that fails, in the place of one that fails
-  pub row_set_other : (rows : List R) (place : ℕ) (y d : R) → test y ≡ false → test (get_or rows place d) ≡ false → row_with test (set rows place y) ≡ row_with test rows
-  row_set_other [] place y d new old = refl
-  row_set_other (x ∷ xs) zero y d new old = rw (new, old) refl
-  row_set_other (x ∷ xs) (suc place) y d new old = ap (λ answer. cond (test x) (Some x) answer) (row_set_other xs place y d new old)
-
   -- one that passes, where none before it does
   pub row_set_here : (rows : List R) (place : ℕ) (y : R) → place < length rows → AllWithin (λ row. test row ≡ false) rows 0 place → test y ≡ true → row_with test (set rows place y) ≡ Some y
   row_set_here [] place y within before passes = absurd (omega arith)

@@ -97,42 +97,30 @@ mod tests {
 
     #[test]
     fn capture_and_credits(rt: HostRuntime) -> Result<(), Fail> {
-        let bytes =
-            b"\xf6\x00\x03\x00\x00\x00\x00\x00\x00\x00\x03\x00\x00\x00\x09\x01\x01\x01\x01\x01\x01\x01\x01\x01\x01\x01\x01\x01\x01\x01\x01\x01\x01\x01\x01\x00\x00\x00\x00\x00\x00\x09\xc4\x00\x00\x00\x07";
-        both_ways(
-            &rt,
-            Fields {
+        let vectors: [(u8, &[u8]); 3] = [
+            (
+                3,
+                b"\xf6\x00\x03\x00\x00\x00\x00\x00\x00\x00\x03\x00\x00\x00\x09\x01\x01\x01\x01\x01\x01\x01\x01\x01\x01\x01\x01\x01\x01\x01\x01\x01\x01\x01\x01\x00\x00\x00\x00\x00\x00\x09\xc4\x00\x00\x00\x07",
+            ),
+            (
+                5,
+                b"\xf6\x00\x05\x00\x00\x00\x00\x00\x00\x00\x05\x00\x00\x00\x09\x01\x01\x01\x01\x01\x01\x01\x01\x01\x01\x01\x01\x01\x01\x01\x01\x01\x01\x01\x01\x00\x00\x00\x00\x00\x00\x09\xc4\x00\x00\x00\x07",
+            ),
+            (
+                6,
+                b"\xf6\x00\x06\x00\x00\x00\x00\x00\x00\x00\x06\x00\x00\x00\x09\x01\x01\x01\x01\x01\x01\x01\x01\x01\x01\x01\x01\x01\x01\x01\x01\x01\x01\x01\x01\x00\x00\x00\x00\x00\x00\x09\xc4\x00\x00\x00\x07",
+            ),
+        ];
+        for (kind, bytes) in vectors {
+            let fields = Fields {
                 xid: XID,
                 amount: 2500,
                 batch: 7,
-                ..blank(3, 3)
-            },
-            bytes,
-        )?;
-        let bytes =
-            b"\xf6\x00\x05\x00\x00\x00\x00\x00\x00\x00\x05\x00\x00\x00\x09\x01\x01\x01\x01\x01\x01\x01\x01\x01\x01\x01\x01\x01\x01\x01\x01\x01\x01\x01\x01\x00\x00\x00\x00\x00\x00\x09\xc4\x00\x00\x00\x07";
-        both_ways(
-            &rt,
-            Fields {
-                xid: XID,
-                amount: 2500,
-                batch: 7,
-                ..blank(5, 5)
-            },
-            bytes,
-        )?;
-        let bytes =
-            b"\xf6\x00\x06\x00\x00\x00\x00\x00\x00\x00\x06\x00\x00\x00\x09\x01\x01\x01\x01\x01\x01\x01\x01\x01\x01\x01\x01\x01\x01\x01\x01\x01\x01\x01\x01\x00\x00\x00\x00\x00\x00\x09\xc4\x00\x00\x00\x07";
-        both_ways(
-            &rt,
-            Fields {
-                xid: XID,
-                amount: 2500,
-                batch: 7,
-                ..blank(6, 6)
-            },
-            bytes,
-        )
+                ..blank(kind, u64::from(kind))
+            };
+            both_ways(&rt, fields, bytes)?;
+        }
+        Ok(())
     }
 
     #[test]
@@ -152,24 +140,24 @@ mod tests {
 
     #[test]
     fn batch_open_and_close(rt: HostRuntime) -> Result<(), Fail> {
-        let bytes = b"\xe2\x00\x07\x00\x00\x00\x00\x00\x00\x00\x07\x00\x00\x00\x09\x00\x00\x00\x07";
-        both_ways(
-            &rt,
-            Fields {
+        let vectors: [(u8, &[u8]); 2] = [
+            (
+                7,
+                b"\xe2\x00\x07\x00\x00\x00\x00\x00\x00\x00\x07\x00\x00\x00\x09\x00\x00\x00\x07",
+            ),
+            (
+                8,
+                b"\xe2\x00\x08\x00\x00\x00\x00\x00\x00\x00\x08\x00\x00\x00\x09\x00\x00\x00\x07",
+            ),
+        ];
+        for (kind, bytes) in vectors {
+            let fields = Fields {
                 batch: 7,
-                ..blank(7, 7)
-            },
-            bytes,
-        )?;
-        let bytes = b"\xe2\x00\x08\x00\x00\x00\x00\x00\x00\x00\x08\x00\x00\x00\x09\x00\x00\x00\x07";
-        both_ways(
-            &rt,
-            Fields {
-                batch: 7,
-                ..blank(8, 8)
-            },
-            bytes,
-        )
+                ..blank(kind, u64::from(kind))
+            };
+            both_ways(&rt, fields, bytes)?;
+        }
+        Ok(())
     }
 
     #[test]

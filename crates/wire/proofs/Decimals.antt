@@ -1,5 +1,5 @@
 -- The decimal digits of a card number, written from the last to the first.
-use Rattle.std.proofs.Common.{◌≡◌, ℕ, zero, suc, ◌+◌, ◌-◌, ◌*◌, ◌/◌, ◌%◌, ◌^◌, ◌<◌, ◌≤◌, List, [], ◌∷◌, ◌++◌, length, get_or, take, drop, set, replicate, sym, refl, ap, ◌∙◌, ⊎_elim, pow-suc, add-one, arith, length-set}
+use Rattle.std.proofs.Common.{◌≡◌, ℕ, zero, suc, ◌+◌, ◌-◌, ◌*◌, ◌/◌, ◌%◌, ◌^◌, ◌<◌, ◌≤◌, cond, Option, Some, None, List, [], ◌∷◌, ◌++◌, length, get_or, take, drop, set, replicate, sym, refl, ap, ◌∙◌, ⊎_elim, pow-suc, add-one, arith, length-set}
 use lib.Arith.{digits_div, digits_mod}
 use native.Mathlib.Nat.{pow-le-pow_right}
 use lib.ListN.{length-replicate}
@@ -8,7 +8,8 @@ use Rattle.std.proofs.lemmas.Int.Digits.{digits_of_step, length-digits_of_step, 
 use Rattle.std.proofs.ByRecursion.{All-append, All-weaker, All-get_or, All-take}
 use Rattle.std.proofs.lemmas.List.{append_assoc, drop-set, drop-replicate, nil_from_length, length-take-le, get_or-take}
 use Rattle.std.proofs.lemmas.Bool.{cases_lt}
-use Rattle.wire.specs.Card.{filled}
+use Rattle.wire.specs.Card.{digits_in, well_filled, card_shaped, filled}
+use Rattle.wire.proofs.Halves.{found_filled}
 use Rattle.wire.proofs.Numbers.{ends}
 
 -- a number between two powers of ten has one digit more than the lower power says
@@ -83,6 +84,10 @@ filled_under n =
     All-append (λ h. h < 16) (digits_of 10 n) (replicate (20 - length (digits_of 10 n)) 15)
     (All-weaker (λ d. d < 10) (λ h. h < 16) (λ d digit. omega arith) (digits_of 10 n) (all_below_base_digits_of 10 n (omega arith)))
     (fill_under (20 - length (digits_of 10 n)))
+
+-- looking for a card's digits in the halves that a number was filled into finds its own, where they are shaped as a card's
+pub found_in_number : (n : ℕ) (all : List ℕ) (found : Option (List ℕ)) → all ≡ filled (digits_of 10 n) → found ≡ cond (well_filled all) (Some (digits_in all)) None → found ≡ cond (card_shaped (digits_of 10 n)) (Some (digits_of 10 n)) None
+found_in_number n all found are told = found_filled (digits_of 10 n) all found (all_below_base_digits_of 10 n (omega arith)) are told
 
 -- a number whose first digit is not 0 is not 0
 number_above : (ds : List ℕ) → 0 < get_or ds 0 0 → 0 < number 10 ds

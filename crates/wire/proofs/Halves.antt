@@ -1,8 +1,8 @@
 -- The halves of a card's ten bytes: split, counted and put together again.
-use Rattle.std.proofs.Common.{◌≡◌, ℕ, zero, suc, ◌+◌, ◌-◌, ◌*◌, ◌/◌, ◌%◌, ◌<◌, ◌≤◌, Bool, true, false, cond, not, ◌&&◌, ltb, leb, List, [], ◌∷◌, ◌++◌, length, get_or, take, drop, set, replicate, Some, None, Option, sym, refl, ap, ◌∙◌, arith, length-set}
+use Rattle.std.proofs.Common.{◌≡◌, ℕ, zero, suc, ◌+◌, ◌-◌, ◌*◌, ◌/◌, ◌%◌, ◌<◌, ◌≤◌, Bool, true, false, cond, not, ◌&&◌, ltb, List, [], ◌∷◌, ◌++◌, length, get_or, take, drop, set, replicate, Some, None, Option, sym, refl, ap, ◌∙◌, arith, length-set}
 use Rattle.std.proofs.Math.Bool.{and-true}
 use Rattle.std.proofs.lemmas.List.{append_assoc, take_more, take_more_set, drop_at}
-use Rattle.std.proofs.lemmas.Bool.{and_parts, cond-true, cond_both, lt-ltb, ltb-true, leb-true}
+use Rattle.std.proofs.lemmas.Bool.{cond-true, cond_both, lt-ltb, ltb-true}
 use Rattle.std.specs.Int.Digits.{AllBelowBase}
 use Rattle.wire.specs.Card.{halves, digits_in, only_fill, card_shaped, well_filled, pairs, filled}
 
@@ -73,33 +73,12 @@ found_filled ds all found under are told =
     ∙ ap (λ t. cond t (Some (digits_in (filled ds))) None) (shaped_filled ds under)
     ∙ ap (λ xs. cond (card_shaped ds) (Some xs) None) (digits_filled ds under)
 
-pub some_when : {A : Type 0} (b : Bool) (x y : A) → Some x ≡ cond b (Some y) None → (b ≡ true) × (x ≡ y)
-some_when true x y e = (refl, cc)
-some_when false x y e = let z : ◌≡◌ {A = ℕ} 0 1 = cc in absurd (omega arith)
-
 -- something was found: either nothing was asked for, or it is what was asked for and is right
 pub found_one : {A : Type 0} (asked is_right : Bool) (value none found : A) → Some found ≡ cond asked (cond is_right (Some value) None) (Some none) →
     ((asked && not is_right) ≡ false) × (found ≡ cond asked value none)
 found_one true true value none found is = (refl, cc)
 found_one true false value none found is = let z : ◌≡◌ {A = ℕ} 0 1 = cc in absurd (omega arith)
 found_one false is_right value none found is = (refl, cc)
-
--- what is known once the digits have been found in the halves of ten bytes
-pub record Found (bytes digits : List ℕ) : Type 0 where
-  pub filled : well_filled (halves bytes) ≡ true
-  pub are : digits ≡ digits_in (halves bytes)
-  pub few : length digits ≤ 19
-
-pub found : (bytes all digits : List ℕ) → all ≡ halves bytes → Some digits ≡ cond (well_filled all) (Some (digits_in all)) None → Found bytes digits
-found bytes all digits split is =
-    let both = some_when (well_filled all) digits (digits_in all) is in
-    let shaped = (and_parts (card_shaped (digits_in all)) (only_fill (drop (length (digits_in all)) all)) both.0).0 in
-    let bounds = and_parts (leb (length (digits_in all)) 19) _ (and_parts (leb 13 (length (digits_in all))) _ shaped).1 in
-    record {
-      filled = ap well_filled (sym split) ∙ both.0;
-      are = both.1 ∙ ap digits_in split;
-      few = rw both.1 (leb-true (length (digits_in all)) 19 bounds.0);
-    }
 
 abbrev twice : ℕ → ℕ
 twice zero = 0

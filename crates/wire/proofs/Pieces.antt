@@ -1,15 +1,12 @@
 -- The fields that a reader hands out: cut at their places, and zeros where the map lacks them.
-use Rattle.std.proofs.Common.{◌≡◌, ℕ, zero, suc, ◌+◌, ◌*◌, ◌<◌, ◌≤◌, true, false, cond, List, length, take, drop, replicate, Some, None, refl, ap, ◌∙◌, arith, length-drop}
+use Rattle.std.proofs.Common.{◌≡◌, ℕ, zero, suc, ◌+◌, ◌*◌, ◌<◌, ◌≤◌, true, false, List, length, take, drop, replicate, refl, ap, ◌∙◌, arith, length-drop}
 use lib.ListN.{length-replicate}
 use Rattle.std.proofs.lemmas.List.{length-take-le}
 use Rattle.std.specs.Int.Digits.{number_from_digits, number_from_digits_after}
 use Rattle.std.proofs.lemmas.Bool.{cond-true, cond-false, cond_both}
-use Rattle.fields.specs.Field.{bit_of, width, stands, place, length_under}
-use Rattle.fields.specs.declared.field.Field.{Field}
-use Rattle.fields.specs.declared.field.Field.TheVariants.{Kind, Request, Course, Xid, Card, Amount, Batch, Code}
+use Rattle.fields.specs.Field.{width, stands, place, length_under}
 use Rattle.fields.proofs.Places.{widths_to_room}
 use Rattle.wire.specs.Layout.{piece_in}
-use Rattle.wire.proofs.Halves.{some_when}
 
 length_between_part : (bytes : List ℕ) (at wide : ℕ) → at + wide ≤ length bytes → length (take wide (drop at bytes)) ≡ wide
 length_between_part bytes at wide within = length-take-le wide (drop at bytes) (simp length-drop (omega arith))
@@ -36,21 +33,3 @@ piece_long map bytes bit within long =
     cond_both (stands map bit) _ _ (λ p. length p ≡ width bit)
     (λ there. length_between_part bytes (place map bit) (width bit) (omega (arith, widths_to_room map bit 16 within there, long)))
     (λ _. length-replicate (width bit) 0)
-
--- every field in use has a bit below 8
-pub bit_small : (f : Field) → bit_of f < 8
-bit_small Kind = omega arith
-bit_small Request = omega arith
-bit_small Course = omega arith
-bit_small Xid = omega arith
-bit_small Card = omega arith
-bit_small Amount = omega arith
-bit_small Batch = omega arith
-bit_small Code = omega arith
-
--- what a reader hands out is the field, as long as its width
-pub handed : (map : ℕ) (bytes piece : List ℕ) (f : Field) → length bytes ≡ length_under map → Some piece ≡ cond (stands map (bit_of f)) (Some (piece_in map bytes (bit_of f))) None →
-    (piece ≡ piece_in map bytes (bit_of f)) × (length piece ≡ width (bit_of f))
-handed map bytes piece f long given =
-    let is = (some_when (stands map (bit_of f)) piece (piece_in map bytes (bit_of f)) given).1 in
-    (is, ap length is ∙ piece_long map bytes (bit_of f) (omega (arith, bit_small f)) long)
