@@ -1,5 +1,5 @@
 use Rattle.std.proofs.Common.{◌≡◌, List, Some, None, sym, ap, ◌∙◌}
-use Rattle.rows.specs.First.{row_with, update_first}
+use Rattle.rows.specs.First.{update_first}
 use Rattle.rules.specs.Ledger.{Ledger, of_xid, purchase_row}
 use Rattle.rules.specs.Rules.{on_put, settled}
 use Rattle.rules.specs.Sound.{sound_purchase}
