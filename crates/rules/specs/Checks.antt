@@ -1,15 +1,15 @@
 -- The checks of performing, as a table of rows: number, kinds, cause. The first row that applies refuses the message.
-use Rattle.std.specs.Prelude.{◌≡◌, ℕ, ◌-◌, Bool, false, cond, not, ◌&&◌, ◌||◌, List, map, [], ◌∷◌, is_some, Some, None, Option, ◌==◌, nat_le, nat_lt}
+use Rattle.std.specs.Prelude.{◌≡◌, ℕ, ◌-◌, Bool, false, cond, not, ◌&&◌, ◌||◌, List, [], ◌∷◌, map, is_some, Some, None, Option, ◌==◌, nat_le, nat_lt}
 use Rattle.std.specs.Option.{unwrap_or}
+use Rattle.fields.specs.Kind.{kind_number}
 use Rattle.wire.specs.declared.message.Fields.{Fields}
 use Rattle.rules.specs.Ledger.{no_purchase, no_batch}
 use Rattle.rules.specs.Same.{same_fields}
+use Rattle.rules.specs.declared.checks.Row.{Row}
 use Rattle.rules.specs.declared.facts.Facts.{Facts}
 use Rattle.rules.specs.Outcome.{outcome_code}
 use Rattle.rules.specs.declared.outcome.Outcome.{Outcome}
 use Rattle.rules.specs.declared.outcome.Outcome.TheVariants.{RequestNumberUsed, MemoryFull, UnknownXid, PiAuthMismatch, InDoubt, PiPreviouslyUsed, PurchasesFull, NothingAuthorised, DuplicateRequest, NothingCaptured, AmountOutOfBounds, BatchUnknown, BatchClosed, NotReversible, BatchNumberUsed, BatchesFull}
-use Rattle.rules.specs.declared.checks.Row.{Row}
-use Rattle.fields.specs.Kind.{kind_number}
 use Rattle.rules.specs.declared.remembered.Remembered.{Remembered}
 
 -- how many rows the books have room for

@@ -3,8 +3,8 @@ ghost use Rattle.std.specs.Prelude.{◌≡◌, ◌-◌, map};
 ghost use Rattle.std.specs.Option.{unwrap_or};
 ghost use Rattle.fields.specs.Kind.{kind_number};
 ghost use Rattle.rules.specs.Checks.{book_checks, check, refusal, refuses, row_of};
-ghost use Rattle.rules.specs.Outcome.{outcome_code};
 ghost use Rattle.rules.specs.Ledger.{no_purchase};
+ghost use Rattle.rules.specs.Outcome.{outcome_code};
 
 use crate::batch::Batch;
 use crate::facts::{ANSWERS, BATCHES, Facts, PURCHASES};
@@ -77,7 +77,7 @@ impl Row {
     fn refuses(&self, kind: Kind) -> bool
         ensures { result ≡ refuses (kind_number kind) (row_of self.now) }
     {
-        self.kinds.contains(&kind) && self.cause
+        self.cause && self.kinds.contains(&kind)
     }
 }
 
