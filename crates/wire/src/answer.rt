@@ -19,6 +19,7 @@ const SHORT: Map = Map { bits: 0x0100 };
 
 #[derive(Clone, Copy, PartialEq, Eq, Debug)]
 pub struct Answer {
+    // this and the code are numbers and no enums: any of them is written as it is given, and none is refused
     pub kind: u8,
     pub request: u64,
     pub course: u32,

@@ -36,6 +36,7 @@ pub fn passes_luhn(digits: &[u8]) -> bool
 }
 
 // The two halves of each byte, the higher first.
+// By index, as in `join`: what is written through chunks or a zip of a slice is not known to a proof afterwards.
 pub fn split(bytes: &[u8; 10]) -> [u8; 20]
     ensures { result ≡ halves bytes.now }
 {

@@ -17,8 +17,7 @@ fn put_map(buffer: &mut [u8], map: Map)
 }
 
 // Writes a field at its place, if the map has it.
-// The map and the buffer stay two parameters: a struct of both would have to promise in each method that it still
-// holds the same buffer, which is more than the one bound on its length that is said twice here.
+// The map and the buffer stay apart: a struct of both would promise in each method that it holds the same buffer.
 fn put(buffer: &mut [u8], map: Map, field: Field, bytes: &[u8])
     requires room { length_under map.bits ≤ length buffer.old }
     requires wide { length bytes.now ≡ width (bit_of field) }

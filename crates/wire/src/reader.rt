@@ -13,7 +13,7 @@ use fields::refusal::Refusal;
 
 // The lent message, once its length is known to be its kind's.
 #[derive(Drop)]
-pub struct Reader<'a> {
+struct Reader<'a> {
     message: &'a [u8],
     kind: Kind,
     // the fields handed out so far
