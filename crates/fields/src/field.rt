@@ -22,6 +22,7 @@ pub enum Field {
 }
 
 impl Field {
+    // By a name and not by `From`: a bit is a property of a field, and no other form of it.
     pub fn bit(self) -> usize
         ensures { result ≡ bit_of self }
     {

@@ -1,4 +1,5 @@
 // The books: purchases, remembered answers and batches. Rows are never freed, and memory is taken once, when they are made.
+// Lists and no maps: a purchase's place in its list is its reference, and what is few is searched in order.
 ghost use Rattle.std.specs.Prelude.{◌≡◌, ◌<◌, ◌≤◌, true, [], ◌∷◌, ◌++◌, IfOk, length, vec_len, vec_capacity};
 ghost use Rattle.rows.specs.First.{update_first};
 ghost use Rattle.rules.specs.Ledger.{facts_of, no_ledger, remembered_of};
@@ -116,6 +117,7 @@ impl Books {
         }
     }
 
+    // For each list a function that rewrites a row and one that adds one: each asks for what its list has to keep.
     pub(crate) fn set_purchase(&mut self, m: &Fields, p: Purchase)
         requires { sound_purchase p ≡ true }
         ensures { self.new ≡ on_purchase m.now (λ _. p) self.old }

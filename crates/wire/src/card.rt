@@ -66,14 +66,10 @@ pub fn digits_of(all: &[u8; 20]) -> Option<&[u8]>
     ensures { option_map (λ digits. digits.now) result ≡ (if well_filled all.now then Some (digits_in all.now) else None) }
 {
     let (digits, rest) = all.split_at(count_digits(all));
-    let count = digits.len();
-    if count < LEAST_DIGITS || count > MOST_DIGITS {
+    if !(LEAST_DIGITS..=MOST_DIGITS).contains(&digits.len()) {
         return None;
     }
-    if digits[0] == 0 {
-        return None;
-    }
-    if !only_fill(rest) {
+    if digits[0] == 0 || !only_fill(rest) {
         return None;
     }
     Some(digits)

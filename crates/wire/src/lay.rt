@@ -47,6 +47,7 @@ fn fill(map: Map, parts: &Parts, buffer: &mut [u8])
 }
 
 // Lays out a message or an answer and answers how long it is; nothing is written to a buffer that is too short.
+// A length and no slice: the buffer is lent, and a slice of it would keep the caller from it.
 pub fn lay(map: Map, parts: &Parts, buffer: &mut [u8]) -> Result<usize, Refusal>
     ensures value { numbered result ≡ length_written (laying_into (length buffer.old) map.bits parts.now) }
     ensures after { buffer.new ≡ over_front (laying_into (length buffer.old) map.bits parts.now) buffer.old }

@@ -1,6 +1,7 @@
 // What the fields of a message or an answer hold, the card still packed.
 #[derive(Clone, Copy, PartialEq, Eq, Debug)]
 pub struct Parts {
+    // this and the code are bytes and no enums, since those of an answer may be any
     pub kind: u8,
     pub request: u64,
     pub course: u32,

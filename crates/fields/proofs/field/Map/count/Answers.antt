@@ -1,4 +1,4 @@
-use Rattle.std.proofs.Common.{rules, sym}
+use Rattle.std.proofs.Common.{rules}
 use Rattle.fields.proofs.Places.{ones_are_fields}
 use Rattle.fields.proofs.field.Map.count.Goals as goal
 
