@@ -1,12 +1,17 @@
 -- What performing a message answers, and what it leaves in the books and in the host: by the rules, and the host's meaning.
-use Rattle.std.specs.Prelude.{◌≡◌}
+use Rattle.std.specs.Prelude.{◌≡◌, None}
 use Rattle.host.specs.Parts.{SameHeld}
 use Rattle.host.specs.declared.Host.{Ghosts as HostMeaning}
 use Rattle.wire.specs.declared.message.Fields.{Fields}
-use Rattle.rules.specs.Ledger.{Ledger}
+use Rattle.rules.specs.Checks.{book_checks, refusal}
+use Rattle.rules.specs.Ledger.{Ledger, facts_of}
 use Rattle.rules.specs.Rules.{Call, no_call, Reply, answer_by, answer_of, books_after, books_by, call_by, call_of, held_after_call, put_of, reply_of, through_call}
 use Rattle.rules.specs.declared.outcome.Performed.{Performed}
 use Rattle.rules.specs.declared.way.Way.{Way}
+
+-- no check from 9 on refuses the message
+abbrev pub Passed : Ledger → Fields → Type 0
+Passed l m = refusal m.kind (book_checks (facts_of l m) m) ≡ None
 
 -- a message whose way is known: its answer, and the books after it, given the host's reply
 pub record Booked (w : Way) (m : Fields) (l : Ledger) (reply : Reply) (r : Performed) (l' : Ledger) : Type 0 where

@@ -94,7 +94,7 @@ impl Books {
         place as u64 + 1
     }
 
-    // That there is room is a fact of the books at one moment, which no type can carry from call to call: each caller states it.
+    // Each caller states that there is room: a value that lends the books with that fact would be made and taken apart in each.
     pub(crate) fn remember(&mut self, m: &Fields, answer: Performed)
         requires { length self.old.answers < 256 }
         ensures { self.new ≡ noted m.now answer self.old }

@@ -33,6 +33,7 @@ impl Books {
         ensures { self.new ≡ on_batch m.now shut self.old }
     {
         if let Some(b) = self.facts(m).batch {
+            // as a new row, `Batch { closed: true, ..b }`, the signed total is not seen to be the same, and this gets no proof
             let mut after = b;
             after.closed = true;
             self.set_batch(m, after);

@@ -24,6 +24,7 @@ impl fmt::Display for Handled {
 
     fn fmt<W: fmt::Write>(&self, f: &mut fmt::Formatter<W>) -> fmt::Result {
         match *self {
+            // the number of `Refusal::ShortBuffer`, the one refusal that can come here
             Handled::NoRoom => write!(f, "1 -"),
             Handled::Short(refusal) => {
                 let code = u8::from(refusal);

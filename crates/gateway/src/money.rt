@@ -4,7 +4,7 @@ ghost use Rattle.rules.specs.Checks.{among, book_checks, refusal};
 ghost use Rattle.rules.specs.Ledger.{batch_row, facts_of, purchase_row};
 ghost use Rattle.rules.specs.Rules.{left_of, noted, on_batch, on_purchase, uncalled, with_captured, with_credited, with_total};
 ghost use Rattle.rules.specs.declared.way.Way.TheVariants.{Through};
-ghost use Rattle.gateway.specs.Performing.{Booked};
+ghost use Rattle.gateway.specs.Performing.{Booked, Passed};
 ghost use Rattle.rules.specs.Sound.{most_pence, most_total, size, sound_purchase, within};
 
 use crate::books::Books;
@@ -16,15 +16,16 @@ use rules::purchase::Purchase;
 use wire::message::Fields;
 use wire::opened::Opened;
 
-// A batch with an amount added to its total.
+// A batch with an amount added to its total. An amount has no sign, so to add one and to take one are two functions.
 fn added(b: Batch, amount: u64) -> Batch
     requires small { amount ≤ most_pence }
     requires bound { size b.total ≤ most_total 256 }
     ensures { result ≡ with_total (b.total +ℤ pos amount) b }
 {
-    let mut after = b;
-    after.total += amount as i64;
-    after
+    Batch {
+        total: b.total + amount as i64,
+        ..b
+    }
 }
 
 // A batch with an amount taken from its total.
@@ -33,9 +34,10 @@ fn taken(b: Batch, amount: u64) -> Batch
     requires bound { size b.total ≤ most_total 256 }
     ensures { result ≡ with_total (b.total -ℤ pos amount) b }
 {
-    let mut after = b;
-    after.total -= amount as i64;
-    after
+    Batch {
+        total: b.total - amount as i64,
+        ..b
+    }
 }
 
 // A purchase with so much captured, in this batch.
@@ -96,24 +98,45 @@ impl Books {
         }
     }
 
-    // A capture, a credit or the reversal of one: what it makes of its purchase and of its batch.
-    pub(crate) fn move_money(&mut self, message: &Opened) -> Performed
-        requires kinds { among message.now.fields.kind (3 ∷ 4 ∷ 5 ∷ 6 ∷ []) ≡ true }
-        requires passed { refusal message.now.fields.kind (book_checks (facts_of self.old message.now.fields) message.now.fields) ≡ None }
+    // A capture is of so much of what is authorised, in the message's batch.
+    pub(crate) fn capture(&mut self, message: &Opened) -> Performed
+        requires kind { message.now.fields.kind ≡ 3 }
+        requires passed { Passed self.old message.now.fields }
         ensures { Booked Through message.now.fields self.old uncalled result self.new }
     {
         let m = message.fields();
         let (p, b) = self.rows_of(&m);
-        match message.kind() {
-            Kind::CapReq => self.book(&m, captured(p, m.amount, m.batch), added(b, m.amount)),
-            Kind::CapRevReq => self.book(&m, captured(p, 0, p.batch), taken(b, p.captured)),
-            Kind::CredReq => self.book(&m, credited(p, p.credited + m.amount), taken(b, m.amount)),
-            Kind::CredRevReq => self.book(
-                &m,
-                credited(p, p.credited - m.amount),
-                added(b, m.amount),
-            ),
-            _ => unreachable(),
-        }
+        self.book(&m, captured(p, m.amount, m.batch), added(b, m.amount))
+    }
+
+    // The reversal of a capture takes all of it back.
+    pub(crate) fn reverse_capture(&mut self, message: &Opened) -> Performed
+        requires kind { message.now.fields.kind ≡ 4 }
+        requires passed { Passed self.old message.now.fields }
+        ensures { Booked Through message.now.fields self.old uncalled result self.new }
+    {
+        let m = message.fields();
+        let (p, b) = self.rows_of(&m);
+        self.book(&m, captured(p, 0, p.batch), taken(b, p.captured))
+    }
+
+    pub(crate) fn credit(&mut self, message: &Opened) -> Performed
+        requires kind { message.now.fields.kind ≡ 5 }
+        requires passed { Passed self.old message.now.fields }
+        ensures { Booked Through message.now.fields self.old uncalled result self.new }
+    {
+        let m = message.fields();
+        let (p, b) = self.rows_of(&m);
+        self.book(&m, credited(p, p.credited + m.amount), taken(b, m.amount))
+    }
+
+    pub(crate) fn reverse_credit(&mut self, message: &Opened) -> Performed
+        requires kind { message.now.fields.kind ≡ 6 }
+        requires passed { Passed self.old message.now.fields }
+        ensures { Booked Through message.now.fields self.old uncalled result self.new }
+    {
+        let m = message.fields();
+        let (p, b) = self.rows_of(&m);
+        self.book(&m, credited(p, p.credited - m.amount), added(b, m.amount))
     }
 }

@@ -7,7 +7,7 @@ ghost use Rattle.rules.specs.declared.way.Way.TheVariants.{Retry, Through};
 ghost use Rattle.law.specs.Carried.{BeginsLaw, CarriesLaw};
 ghost use Rattle.law.specs.History.{spelling};
 ghost use Rattle.law.specs.Reached.{full};
-ghost use Rattle.gateway.specs.Performing.{Called, Goes, Performs, reply};
+ghost use Rattle.gateway.specs.Performing.{Called, Goes, Passed, Performs, reply};
 
 use crate::books::Books;
 use fields::kind::Kind;
@@ -38,6 +38,7 @@ impl<H: Host> Gateway<H> {
         }
     }
 
+    // The put and the read differ in the call and in the type of its reply, and share `pair_of`.
     // The put of a message's amount, under its purchase's card and reference.
     fn put(&mut self, message: &Opened) -> PutReply
         ensures answer { on_put result ≡ reply H.Host self.old.host (put_of self.old.books message.now.fields) }
@@ -60,7 +61,7 @@ impl<H: Host> Gateway<H> {
 
     // A message that is past all checks.
     fn through(&mut self, message: &Opened) -> Performed
-        requires { refusal message.now.fields.kind (book_checks (facts_of self.old.books message.now.fields) message.now.fields) ≡ None }
+        requires { Passed self.old.books message.now.fields }
         ensures { Goes H.Host Through message.now.fields self.old.books self.old.host result self.new.books self.new.host }
     {
         let m = message.fields();
@@ -73,9 +74,10 @@ impl<H: Host> Gateway<H> {
                 let reply = self.put(message);
                 self.books.lower(message, reply)
             }
-            Kind::CapReq | Kind::CapRevReq | Kind::CredReq | Kind::CredRevReq => self
-                .books
-                .move_money(message),
+            Kind::CapReq => self.books.capture(message),
+            Kind::CapRevReq => self.books.reverse_capture(message),
+            Kind::CredReq => self.books.credit(message),
+            Kind::CredRevReq => self.books.reverse_credit(message),
             Kind::BatchOpen => self.books.open_batch(&m),
             Kind::BatchClose => self.books.close_batch(&m),
             Kind::Inquiry => Performed::from(self.read(message)),

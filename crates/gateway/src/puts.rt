@@ -1,4 +1,5 @@
 // What a put's reply makes of the books, and the answer to its message.
+// The two are passed side by side: a struct of both would be taken apart in every function.
 ghost use Rattle.std.specs.Prelude.{◌≡◌, ◌<◌, false, is_some, length};
 ghost use Rattle.rules.specs.Ledger.{purchase_row};
 ghost use Rattle.rules.specs.Rules.{noted, on_purchase, on_put, put_answered, refused_amount, settled};

@@ -34,23 +34,3 @@ returns-in-AuthRevReq g c =
       };
       called = rw call put.ensures.called;
     }
-
--- a capture, a credit or the reversal of one makes no call
-calls_none : (l : Ledger) (m : Fields) (k : Kind) → kind_number k ≡ m.kind → (k ≡ CapReq) ⊎ ((k ≡ CapRevReq) ⊎ ((k ≡ CredReq) ⊎ (k ≡ CredRevReq))) → through_call l m ≡ no_call
-calls_none l m k number =
-    let by : ℕ → Call = λ n. cond (among n (1 ∷ 2 ∷ [])) (put_of l m) (cond (eqb n 9) (read (card_of l m) (reference_of l m)) no_call) in
-    let at : (j : Kind) → k ≡ j → by m.kind ≡ by (kind_number j) = λ j is. ap by (sym number ∙ ap kind_number is) in
-    ⊎_elim (at CapReq) (⊎_elim (at CapRevReq) (⊎_elim (at CredReq) (at CredRevReq)))
-
-pub returns-in-CapReq : goal.returns-in-CapReq
-returns-in-CapReq g c =
-    let l = c.args.self.now.books in
-    let m = c.args.message.now.fields in
-    let host = c.args.self.now.host in
-    let moved = c.move_money.ensures in
-    let none = calls_none l m c.kind.result c.kind.ensures c.in-CapReq.is in
-    let replied : uncalled ≡ reply g.H.Host host (through_call l m) = ap (reply g.H.Host host) (sym none) in
-    record {
-      booked = subst (λ r. Booked Through m l r c.move_money.result c.move_money.new.self) replied moved;
-      called = rw none (record { holds = λ card reference. refl; same_host = λ is. refl });
-    }
