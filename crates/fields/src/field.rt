@@ -6,6 +6,7 @@ ghost use Rattle.fields.specs.Field.{bit_of, width, stands, widths_to, place, le
 pub const FIELDS: usize = 16;
 
 // The width of each field in bytes, by bit. The last eight are reserved and never set.
+// A table by bit and not a match by field: the reserved bits have a width too, and no field.
 const WIDTHS: [usize; 16] = [1, 8, 4, 20, 10, 8, 4, 1, 0, 0, 0, 0, 0, 0, 0, 0];
 
 // The fields in use, each with its bit counted from the highest.
@@ -58,6 +59,7 @@ impl Map {
     }
 
     // What the fields below this bit take up together.
+    // A loop: the sum of a chain asks for a bound on all that it adds, which the table gives only bit by bit.
     fn widths_to(self, end: usize) -> usize
         requires { end ≤ 16 }
         ensures { result ≡ widths_to self.bits end }

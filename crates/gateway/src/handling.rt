@@ -24,6 +24,7 @@ fn lacks_room(answer: &[u8], strip: &[u8]) -> bool
     answer.len() < FULL_LENGTH || strip.len() < STRIP
 }
 
+// Of the message and what performing it came to, so it is no conversion of either.
 fn answer_to(m: &Fields, performed: Performed) -> Answer
     ensures { result ≡ answer_to m.now performed }
 {

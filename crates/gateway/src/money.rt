@@ -17,6 +17,7 @@ use wire::message::Fields;
 use wire::opened::Opened;
 
 // A batch with an amount added to its total. An amount has no sign, so to add one and to take one are two functions.
+// The bound is asked here and not kept by a batch: it grows with the remembered answers, which a batch does not know.
 fn added(b: Batch, amount: u64) -> Batch
     requires small { amount ≤ most_pence }
     requires bound { size b.total ≤ most_total 256 }

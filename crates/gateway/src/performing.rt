@@ -18,6 +18,7 @@ use std::alloc::{AllocFailed, Global};
 use wire::opened::Opened;
 
 /// A gateway over a host. Neither its books nor its host can be written from outside.
+// The contracts name its books and its host one by one, since the law speaks of the two and knows no gateway.
 #[derive(Drop)]
 pub struct Gateway<H> {
     books: Books,
@@ -59,7 +60,7 @@ impl<H: Host> Gateway<H> {
         self.host.read(pair)
     }
 
-    // A message that is past all checks.
+    // A message that is past all checks, by its kind, as in the rules: what a kind does is a function of its own.
     fn through(&mut self, message: &Opened) -> Performed
         requires { Passed self.old.books message.now.fields }
         ensures { Goes H.Host Through message.now.fields self.old.books self.old.host result self.new.books self.new.host }
@@ -92,7 +93,7 @@ impl<H: Host> Gateway<H> {
         self.books.retry(message, reply)
     }
 
-    // The way that the rules give.
+    // The way that the rules give: one case for each of the four, as in the rules.
     fn go(&mut self, message: &Opened) -> Performed
         ensures { Goes H.Host (way self.old.books message.now.fields) message.now.fields self.old.books self.old.host result self.new.books self.new.host }
     {
