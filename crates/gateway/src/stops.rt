@@ -1,5 +1,7 @@
 // What a refusal leaves in the books.
-ghost use Rattle.std.specs.Prelude.{◌≡◌, ◌<◌, true, length, ◌==◌};
+ghost use Rattle.std.specs.Prelude.{◌≡◌, ◌<◌, true, not, ◌&&◌, [], ◌∷◌, length, ◌==◌};
+ghost use Rattle.rules.specs.Checks.{among};
+ghost use Rattle.rules.specs.Outcome.{outcome_code};
 ghost use Rattle.rules.specs.Rules.{remembers, uncalled};
 ghost use Rattle.rules.specs.declared.way.Way.TheVariants.{Stopped};
 ghost use Rattle.gateway.specs.Performing.{Booked};
@@ -17,12 +19,12 @@ fn is_inquiry(message: &Opened) -> bool
 }
 
 // An inquiry is never remembered, nor a message refused because its request number is used or the memory is full.
-fn remembers(message: &Opened, outcome: Outcome) -> bool
-    ensures { result ≡ remembers message.now.fields outcome }
+fn remembers(inquiry: bool, outcome: Outcome) -> bool
+    ensures { result ≡ (not inquiry && not (among (outcome_code outcome) (8 ∷ 9 ∷ []))) }
 {
     match outcome {
         Outcome::RequestNumberUsed | Outcome::MemoryFull => false,
-        _ => !is_inquiry(message),
+        _ => !inquiry,
     }
 }
 
@@ -36,7 +38,7 @@ impl Books {
             outcome,
             amount: refused_amount(message),
         };
-        if remembers(message, outcome) {
+        if remembers(is_inquiry(message), outcome) {
             self.remember(&message.fields(), answer);
         }
         answer

@@ -1,7 +1,7 @@
 -- What is known of an opened message, from what it says of itself.
-use Rattle.std.proofs.Common.{◌≡◌, ℕ, ◌<◌, ◌≤◌, true, false, leb, length, get_or, is_some, Some, None, Ok, Option, refl, ap, ◌∙◌, arith}
+use Rattle.std.proofs.Common.{◌≡◌, ℕ, ◌<◌, ◌≤◌, false, leb, length, get_or, is_some, Some, None, Ok, Option, refl, ap, ◌∙◌, arith}
 use Rattle.std.proofs.lemmas.Bool.{and_parts, leb-true, not-false, true≢false}
-use Rattle.fields.specs.Kind.{is_kind, least_amounts, most_amounts}
+use Rattle.fields.specs.Kind.{least_amounts, most_amounts}
 use Rattle.fields.proofs.Places.{none_above}
 use Rattle.std.proofs.ByRecursion.{All-from_get_or}
 use Rattle.wire.specs.Checks.{first_failing, unless}
@@ -16,9 +16,6 @@ none_there None none = refl
 none_there (Some n) none = absurd (true≢false none)
 
 module _ (m : Fields) (accepted : is_some (first_failing (writing_checks m)) ≡ false) where
-  pub accepted_kind : is_kind m.kind ≡ true
-  accepted_kind = not-false _ (none_fails (writing_checks m) (none_there (first_failing (writing_checks m)) accepted) 0)
-
   pub accepted_amount : trimmed m ≡ m → m.amount ≤ 99999999
   accepted_amount trim =
       let allowed = not-false _ (none_fails (writing_checks m) (none_there (first_failing (writing_checks m)) accepted) 2) in

@@ -13,7 +13,7 @@ use Rattle.wire.specs.declared.message.Fields.{Fields}
 use Rattle.wire.specs.declared.parts.Parts.{Parts}
 use Rattle.wire.proofs.Chains.{after_passed, before_failed, passes}
 use Rattle.wire.proofs.Halves.{found_one}
-use Rattle.wire.proofs.Opens.{passed, trimmed_is, accepted_is}
+use Rattle.wire.proofs.Opens.{kind_read, passed, trimmed_is, accepted_is}
 use Rattle.wire.proofs.Pieces.{piece_lacking}
 
 pub refused_frame : (b : List ℕ) (n : ℕ) → first_failing (take 4 (opening_checks b)) ≡ Some n → opening b ≡ Err n
@@ -74,3 +74,7 @@ module _ (b : List ℕ) (k : Kind) (f : Framed b k) (p : Parts) (read : p ≡ pa
       well_formed within =
           let ok = passed b (none_refused within) in
           (ap trimmed fields_are ∙ trimmed_is b ok ∙ sym fields_are, ap (λ m. is_some (first_failing (writing_checks m))) fields_are ∙ ap is_some (accepted_is b ok))
+
+      -- and its number is the kind's
+      pub own_kind : allows ≡ true → kind_number k ≡ (fields_with p card).kind
+      own_kind within = f.numbered ∙ sym (kind_read b (passed b (none_refused within))) ∙ sym (ap (λ m. m.kind) fields_are)

@@ -13,7 +13,10 @@ pub mod opening;
 
 #[derive(Drop)]
 pub struct Opened {
+    kind: Kind,
     fields: Fields,
+    // the kind is that of the number in the fields
+    ghost numbered: { kind_number kind ≡ fields.kind },
     // the fields that the kind lacks are 0
     ghost trim: { trimmed fields ≡ fields },
     // and writing it again is refused by nothing
@@ -35,9 +38,6 @@ impl Opened {
     pub fn kind(&self) -> Kind
         ensures { kind_number result ≡ self.now.fields.kind }
     {
-        match Kind::try_from(self.fields.kind) {
-            Ok(kind) => kind,
-            Err(_) => unreachable(),
-        }
+        self.kind
     }
 }

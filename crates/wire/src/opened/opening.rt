@@ -44,7 +44,7 @@ fn examine(message: &[u8], digits: &mut [u8; STRIP]) -> Result<Opened, Refusal>
         amount: parts.amount,
         batch: parts.batch,
     };
-    Ok(Opened { fields })
+    Ok(Opened { kind, fields })
 }
 
 // Opens a message. The digits of its card stand on the strip only meanwhile: on every way out the guard blanks them.

@@ -4,7 +4,7 @@ use Rattle.std.proofs.lemmas.Result.{err_from_is_err_and}
 use Rattle.wire.specs.Checks.{first_failing}
 use Rattle.wire.specs.Opening.{message_in, opening, opening_checks}
 use Rattle.wire.specs.RoundTrip.{Bytes}
-use Rattle.wire.proofs.Examined.{fields_with, refused_frame, opened_is, well_formed}
+use Rattle.wire.proofs.Examined.{fields_with, refused_frame, opened_is, own_kind, well_formed}
 use Rattle.wire.proofs.Trips.{own_bytes, went_through}
 use Rattle.wire.proofs.opened.opening.examine.Goals as goal
 
@@ -26,6 +26,7 @@ invariant_of-result c =
     let own = own_bytes b are m opens in
     let again = went_through (first_failing (opening_checks b)) (message_in b) m opens in
     record {
+      numbered = own_kind b c.in_ok-kind.kind ok.framed c.in_ok-kind.parts ok.parts c.in_ok-card.card found c.allows.result c.allows.ensures c.if-not-allows.false;
       trim = formed.0;
       accepted = formed.1;
       opens = ap (λ x. is_some (first_failing (opening_checks x))) own ∙ ap is_some again.0;
