@@ -102,6 +102,7 @@ fn fill(number: u64) -> [u8; 20]
 {
     let mut all = [FILL; 20];
     let mut rest = number;
+    // By index: what is written through `iter_mut().rev()` over the front is not known to a proof afterwards.
     for i in (0..count_decimal(number)).rev() {
         all[i] = (rest % 10) as u8;
         rest /= 10;

@@ -35,6 +35,7 @@ impl Opened {
     pub fn kind(&self) -> Kind
         ensures { kind_number result ≡ self.now.fields.kind }
     {
+        // The fields have the kind as the number that is written and remembered; `accepted` shows that it is a kind's.
         match Kind::try_from(self.fields.kind) {
             Ok(kind) => kind,
             Err(_) => unreachable(),

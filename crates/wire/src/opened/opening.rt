@@ -35,6 +35,7 @@ fn examine(message: &[u8], digits: &mut [u8; STRIP]) -> Result<Opened, Refusal>
     if !kind.allows(parts.amount) {
         return Err(Refusal::AmountNotAllowed);
     }
+    // Written out: a message has a number where its parts have a packed card, and it has no code.
     let fields = Fields {
         kind: parts.kind,
         request: parts.request,
