@@ -6,7 +6,7 @@ ghost use Rattle.fields.specs.Field.{stands};
 ghost use Rattle.fields.specs.Kind.{kind_number, map_of};
 ghost use Rattle.wire.specs.Opening.{opening, opening_on};
 ghost use Rattle.wire.specs.RoundTrip.{OpeningInverts};
-ghost use Rattle.wire.specs.Strip.{blanked, strip_after};
+ghost use Rattle.wire.specs.Strip.{strip_after};
 
 use super::Opened;
 use crate::message::Fields;
