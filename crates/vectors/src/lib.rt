@@ -1,4 +1,5 @@
 // Vectors from outside, composed by hand: cards known to pass and to fail the Luhn check, and one message of each kind.
+// The kinds are numbers here, since vectors from outside speak in bytes.
 #![tactic(auto)]
 
 #[cfg(test)]

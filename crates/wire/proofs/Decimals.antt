@@ -8,6 +8,7 @@ use Rattle.std.proofs.lemmas.Int.Digits.{digits_of_step, length-digits_of_step, 
 use Rattle.std.proofs.ByRecursion.{All-append, All-weaker, All-get_or, All-take}
 use Rattle.std.proofs.lemmas.List.{append_assoc, drop-set, drop-replicate, nil_from_length, length-take-le, get_or-take}
 use Rattle.std.proofs.lemmas.Bool.{cases_lt}
+use Rattle.std.specs.Option.{IfNone, IfSome, MatchOption}
 use Rattle.wire.specs.Card.{digits_in, well_filled, card_shaped, filled}
 use Rattle.wire.proofs.Halves.{found_filled}
 use Rattle.wire.proofs.Numbers.{ends}
@@ -22,6 +23,11 @@ digits_counted n k least most =
     (λ more. omega arith)
     (λ fewer. let ten : 0 < 10 = omega arith in let up : 10 ^ length (digits_of 10 n) ≤ 10 ^ k = pow-le-pow_right ten fewer in absurd (omega arith))
     (cases_lt k (length (digits_of 10 n)))
+
+-- and 0 has none
+pub digits_counted_or_none : (n : ℕ) (power : Option ℕ) (count : ℕ) (Told : ℕ → Type 0) → IfNone power (n ≡ 0) → IfSome power (λ k. 10 ^ k ≤ n) → IfSome power (λ k. n < 10 * 10 ^ k) → MatchOption power (count ≡ 0) Told → ((k : ℕ) → Told k → count ≡ k + 1) → count ≡ length (digits_of 10 n)
+digits_counted_or_none n None count Told none least most is next = is ∙ ap (λ m. length (digits_of 10 m)) (sym none)
+digits_counted_or_none n (Some k) count Told none least most is next = next k is ∙ digits_counted n k least most
 
 -- a number of 64 bits has at most twenty digits
 pub digits_few : (n : ℕ) → n < 2 ^ 64 → length (digits_of 10 n) ≤ 20

@@ -5,7 +5,6 @@ pub mod Examined
 pub mod Halves
 pub mod Inverse
 pub mod Laying
-pub mod Luhn
 pub mod Numbers
 pub mod Opens
 pub mod Packing

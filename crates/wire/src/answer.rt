@@ -32,6 +32,7 @@ impl From<&Answer> for Parts {
     ghost from_gives = { λ answer parts. parts ≡ answer_parts answer.now };
 
     fn from(answer: &Answer) -> Parts {
+        // Written out: an answer has a code, and neither XID, card nor batch.
         Parts {
             kind: answer.kind,
             request: answer.request,
@@ -46,6 +47,7 @@ impl From<&Answer> for Parts {
 }
 
 // Writes a full answer into the front of a buffer and answers its length; a buffer that is too short is left alone.
+// The length and no slice: a slice of the lent buffer would keep the caller from the buffer.
 pub fn write_full(answer: &Answer, buffer: &mut [u8]) -> Result<usize, Refusal>
     ensures value { numbered result ≡ length_written (full_into (length buffer.old) answer.now) }
     ensures after { buffer.new ≡ over_front (full_into (length buffer.old) answer.now) buffer.old }
@@ -54,7 +56,7 @@ pub fn write_full(answer: &Answer, buffer: &mut [u8]) -> Result<usize, Refusal>
     lay(FULL, &Parts::from(answer), buffer)
 }
 
-// Writes a short answer likewise.
+// Writes a short answer likewise, and answers its length and no slice for the same reason.
 pub fn write_short(code: u8, buffer: &mut [u8]) -> Result<usize, Refusal>
     ensures value { numbered result ≡ length_written (short_into (length buffer.old) code) }
     ensures after { buffer.new ≡ over_front (short_into (length buffer.old) code) buffer.old }

@@ -29,8 +29,8 @@ pub fn passes_luhn(digits: &[u8]) -> bool
     ensures { result ≡ passes_luhn digits.now }
 {
     let mut sum: u128 = 0;
-    for (i, digit) in digits.iter().enumerate() {
-        sum += luhn_weight(*digit, digits.len() - 1 - i);
+    for (after, digit) in digits.iter().rev().enumerate() {
+        sum += luhn_weight(*digit, after);
     }
     sum % 10 == 0
 }
@@ -91,10 +91,9 @@ pub fn number(digits: &[u8]) -> u64
 fn count_decimal(number: u64) -> usize
     ensures { result ≡ length (digits_of 10 number) }
 {
-    match number.checked_ilog10() {
-        Some(power) => power as usize + 1,
-        None => 0,
-    }
+    number
+        .checked_ilog10()
+        .map_or(0, |power| power as usize + 1)
 }
 
 // The digits of a number, from the last to the first, and F after them.
@@ -103,6 +102,7 @@ fn fill(number: u64) -> [u8; 20]
 {
     let mut all = [FILL; 20];
     let mut rest = number;
+    // By index: what is written through `iter_mut().rev()` over the front is not known to a proof afterwards.
     for i in (0..count_decimal(number)).rev() {
         all[i] = (rest % 10) as u8;
         rest /= 10;

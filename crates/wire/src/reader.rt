@@ -16,7 +16,7 @@ use fields::refusal::Refusal;
 struct Reader<'a> {
     message: &'a [u8],
     kind: Kind,
-    // the fields handed out so far
+    // the fields handed out so far, counted to show that they are as many as the map has standing bits
     read: u32,
     ghost long: { length message.now ≡ length_of (kind_number kind) },
 }

@@ -47,6 +47,7 @@ fn checked(fields: &Fields) -> Result<(Kind, Parts), Refusal>
     if !kind.allows(amount_of(kind, fields.amount)) {
         return Err(Refusal::AmountNotAllowed);
     }
+    // Written out: the parts have a packed card where the message has a number, and they have a code.
     let parts = Parts {
         kind: fields.kind,
         request: fields.request,
@@ -61,6 +62,7 @@ fn checked(fields: &Fields) -> Result<(Kind, Parts), Refusal>
 }
 
 // Writes a message into the front of a buffer and answers its length. A refusal leaves the whole buffer.
+// The length and no slice: a slice of the lent buffer would keep the caller from the buffer.
 pub fn write(fields: &Fields, buffer: &mut [u8]) -> Result<usize, Refusal>
     ensures value { numbered result ≡ length_written (writing_into (length buffer.old) fields.now) }
     ensures after { buffer.new ≡ over_front (writing_into (length buffer.old) fields.now) buffer.old }

@@ -6,7 +6,7 @@ ghost use Rattle.fields.specs.Field.{stands};
 ghost use Rattle.fields.specs.Kind.{kind_number, map_of};
 ghost use Rattle.wire.specs.Opening.{opening, opening_on};
 ghost use Rattle.wire.specs.RoundTrip.{OpeningInverts};
-ghost use Rattle.wire.specs.Strip.{blanked, strip_after};
+ghost use Rattle.wire.specs.Strip.{strip_after};
 
 use super::Opened;
 use crate::message::Fields;
@@ -35,6 +35,7 @@ fn examine(message: &[u8], digits: &mut [u8; STRIP]) -> Result<Opened, Refusal>
     if !kind.allows(parts.amount) {
         return Err(Refusal::AmountNotAllowed);
     }
+    // Written out: a message has a number where its parts have a packed card, and it has no code.
     let fields = Fields {
         kind: parts.kind,
         request: parts.request,
