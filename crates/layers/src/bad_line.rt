@@ -27,7 +27,7 @@ pub struct BadLine<H> {
 }
 
 /// What a mark does to a call that meets it.
-// Marks are bytes that a caller lends, of any value, so there is no enum of them and no conversion that fails.
+// Marks are lent bytes of any value, and neither `Fate` nor `u8` is of this crate, so there is no conversion to write.
 fn mark_fate(mark: u8) -> Fate
     ensures { result ≡ mark_fate mark }
 {
@@ -63,6 +63,7 @@ impl<H: Host> BadLine<H> {
 
     /// Spends the next mark on the call, and makes it below unless the mark loses it; a call that is
     /// lost, or whose answer is, answers silence.
+    // The clause `marks` stands in this method, in `spend`, in `put` and in `read`: each promises it of its own call.
     fn carry<A: Drop, F: FnOnce(&mut H) -> A + Drop>(&mut self, call: F, silence: A) -> A
         requires { F.IsAlwaysCallable call }
         ensures marks { marks_left self.new ≡ spent (marks_left self.old) }

@@ -24,6 +24,7 @@ pub struct BatchKey {
 
 impl BatchKey {
     /// The key of the batch that a message names.
+    // by a name and not by From: a message is no key in another form
     pub fn of(m: &Fields) -> BatchKey
         ensures { result ≡ record { course = m.now.course; number = m.now.batch } }
     {

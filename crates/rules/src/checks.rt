@@ -13,8 +13,8 @@ use crate::purchase::Purchase;
 use fields::kind::Kind::{self, *};
 use wire::message::Fields;
 
-// What stands for a purchase or a batch that is not there.
-const NO_PURCHASE: Purchase = Purchase {
+// What stands for a purchase or a batch that is not there, and what a new one begins as.
+pub(crate) const NO_PURCHASE: Purchase = Purchase {
     xid: [0; 20],
     course: 0,
     card: 0,
@@ -25,7 +25,7 @@ const NO_PURCHASE: Purchase = Purchase {
     doubt: None,
 };
 
-const NO_BATCH: Batch = Batch {
+pub(crate) const NO_BATCH: Batch = Batch {
     course: 0,
     number: 0,
     closed: false,
@@ -70,6 +70,7 @@ const BOOKING: &[Kind] = &[CapReq, CapRevReq, CredReq, CredRevReq, BatchClose];
 struct Row {
     outcome: Outcome,
     kinds: &'static [Kind],
+    // the truth of one column, worked out before the row is asked
     cause: bool,
 }
 
@@ -93,6 +94,7 @@ fn check(outcome: Outcome, kinds: &'static [Kind], cause: bool) -> Row
 }
 
 // The table, row by row as the rules state it.
+// A purchase or a batch that is not there is read as a row of zeros, as in the table of specs/Checks.antt.
 fn book_checks(f: &Facts, m: &Fields) -> [Row; 19]
     ensures { map row_of result ≡ book_checks f.now m.now }
 {

@@ -21,6 +21,7 @@ pub struct RequestKey {
 
 impl RequestKey {
     /// The key under which a message's answer is remembered.
+    // by a name and not by From: a message is no key in another form
     pub fn of(m: &Fields) -> RequestKey
         ensures { result ≡ record { course = m.now.course; request = m.now.request } }
     {

@@ -1,4 +1,5 @@
 // When two XIDs and two messages are the same.
+// Both are `==`, under the names that the rules use.
 ghost use Rattle.std.specs.Prelude.{◌≡◌};
 ghost use Rattle.wire.specs.Bytes.{same_bytes};
 ghost use Rattle.rules.specs.Same.{same_fields};

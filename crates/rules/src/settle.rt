@@ -3,11 +3,13 @@ ghost use Rattle.std.specs.Prelude.{◌≡◌};
 ghost use Rattle.rules.specs.Rules.{held_by, new_batch, new_purchase, on_put, on_read, outcome_of, settled};
 
 use crate::batch::Batch;
+use crate::checks::{NO_BATCH, NO_PURCHASE};
 use crate::outcome::{Outcome, Performed};
 use crate::purchase::Purchase;
 use host::{PutReply, ReadReply};
 use wire::message::Fields;
 
+// By a name and not by From: a message is no purchase in another form.
 pub fn new_purchase(m: &Fields) -> Purchase
     ensures { result ≡ new_purchase m.now }
 {
@@ -15,22 +17,18 @@ pub fn new_purchase(m: &Fields) -> Purchase
         xid: m.xid,
         course: m.course,
         card: m.card,
-        authorised: 0,
-        captured: 0,
-        credited: 0,
-        batch: 0,
-        doubt: None,
+        ..NO_PURCHASE
     }
 }
 
+// By a name and not by From: a message is no batch in another form.
 pub fn new_batch(m: &Fields) -> Batch
     ensures { result ≡ new_batch m.now }
 {
     Batch {
         course: m.course,
         number: m.batch,
-        closed: false,
-        total: 0,
+        ..NO_BATCH
     }
 }
 
