@@ -91,13 +91,12 @@ impl Kind {
         };
         least <= amount && amount <= most
     }
-}
 
-impl fmt::Display for Kind {
-    ghost output = { λ kind. Some (kind_name kind) };
-
-    fn fmt<W: fmt::Write>(&self, f: &mut fmt::Formatter<W>) -> fmt::Result {
-        f.write_str(match self {
+    // The name of the message.
+    pub fn name(self) -> &'static str
+        ensures { result.now ≡ kind_name self }
+    {
+        match self {
             Kind::AuthReq => "AuthReq",
             Kind::AuthRevReq => "AuthRevReq",
             Kind::CapReq => "CapReq",
@@ -107,6 +106,14 @@ impl fmt::Display for Kind {
             Kind::BatchOpen => "batch open",
             Kind::BatchClose => "batch close",
             Kind::Inquiry => "inquiry",
-        })
+        }
+    }
+}
+
+impl fmt::Display for Kind {
+    ghost output = { λ kind. Some (kind_name kind) };
+
+    fn fmt<W: fmt::Write>(&self, f: &mut fmt::Formatter<W>) -> fmt::Result {
+        f.write_str(self.name())
     }
 }

@@ -27,11 +27,11 @@ impl From<Refusal> for u8 {
     }
 }
 
-impl fmt::Display for Refusal {
-    ghost output = { λ refusal. Some (refusal_reason refusal) };
-
-    fn fmt<W: fmt::Write>(&self, f: &mut fmt::Formatter<W>) -> fmt::Result {
-        f.write_str(match self {
+impl Refusal {
+    pub fn reason(self) -> &'static str
+        ensures { result.now ≡ refusal_reason self }
+    {
+        match self {
             Refusal::ShortBuffer => "a buffer is too short",
             Refusal::NotAMessage => "under 3 bytes, field 1 missing, or a reserved bit set",
             Refusal::UnknownKind => "the kind is not 1 to 9",
@@ -39,7 +39,15 @@ impl fmt::Display for Refusal {
             Refusal::WrongLength => "the length is not the kind's",
             Refusal::BadCard => "the card is not packed rightly or fails the Luhn check",
             Refusal::AmountNotAllowed => "the amount is not allowed",
-        })
+        }
+    }
+}
+
+impl fmt::Display for Refusal {
+    ghost output = { λ refusal. Some (refusal_reason refusal) };
+
+    fn fmt<W: fmt::Write>(&self, f: &mut fmt::Formatter<W>) -> fmt::Result {
+        f.write_str(self.reason())
     }
 }
 

@@ -99,6 +99,8 @@ impl Books {
         }
     }
 
+    // Captures, credits and their reversals have one form and four bodies: each rewrites its two rows in its own way, and
+    // asks what only the books and the message together know, that no check refuses it.
     // A capture is of so much of what is authorised, in the message's batch.
     pub(crate) fn capture(&mut self, message: &Opened) -> Performed
         requires kind { message.now.fields.kind ≡ 3 }
