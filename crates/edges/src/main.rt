@@ -90,7 +90,7 @@ fn inquiry(request: u64, name: u8) -> Fields {
     }
 }
 
-// A front end lends the strip and the answer's buffer: each program has its own.
+// A front end lends both buffers. No plainer to share: this hands the answer on, `meeting` prints it, and no library does both.
 fn handle<H: Host>(gateway: &mut Gateway<H>, message: &[u8]) -> Handled {
     let mut strip = [0u8; STRIP];
     let mut answer = [0u8; FULL_LENGTH];
@@ -112,6 +112,7 @@ fn send<H: Host>(gateway: &mut Gateway<H>, fields: &Fields) -> anyhow::Result<Ha
 }
 
 // An authorisation a byte too short, and a byte too long.
+// Each step takes the printer and the gateway that it is tried on, side by side: the printer stays, and each gateway is new.
 fn bad_lengths<H: Host>(rt: &impl Print, gateway: &mut Gateway<H>) -> anyhow::Result<()> {
     let mut message = [0u8; LONGER];
     let _ = write(&authorisation(1, 1, 3_000), &mut message);

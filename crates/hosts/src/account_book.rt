@@ -72,6 +72,7 @@ impl Hold {
     }
 }
 
+// Each kind of row says its own key, which for an account is the card, as it is for a voucher.
 impl Keyed for Account {
     type Key = Card;
 
@@ -118,6 +119,7 @@ fn left_of(balance: Amount, holds: &[Hold], pair: Pair, amount: Amount) -> Optio
 
 /// Frees the row of the pair. A pair has at most one in a book that was made cleared; where a lent
 /// list had more, all go, so that nothing is held for the pair after.
+// The drawer's `clear` is this loop over rows of another type: one function of both would take a closure, and a clause on it.
 #[tactic(auto, using(crate::proofs::InPlace::map_turn))]
 fn release(holds: &mut [Hold], pair: Pair)
     ensures { holds.new ≡ map (freed pair.card pair.reference) holds.old }
@@ -199,6 +201,7 @@ impl Keeper for AccountBook<'_, '_> {
     }
 }
 
+// `Host` is another crate's trait, so it can't be given to every `Keeper` at once.
 impl Host for AccountBook<'_, '_> {
     ghost held = { book_held };
 

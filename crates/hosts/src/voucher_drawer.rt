@@ -68,6 +68,7 @@ impl Voucher {
     }
 }
 
+// Each kind of row says its own key, which for a voucher is the card, as it is for an account.
 impl Keyed for Voucher {
     type Key = Card;
 
@@ -150,6 +151,7 @@ impl Keeper for VoucherDrawer<'_> {
     }
 }
 
+// `Host` is another crate's trait, so it can't be given to every `Keeper` at once.
 impl Host for VoucherDrawer<'_> {
     ghost held = { drawer_held };
 

@@ -17,7 +17,7 @@ use std::io;
 
 type Bank<'a, 'h, 'v> = RangeSplit<BadLine<AccountBook<'a, 'h>>, VoucherDrawer<'v>>;
 
-// Card and reference stand apart here, so that each call is one short line of the table.
+// An enum, since the calls are a table, printed one after the other; card and reference stand apart, to keep its lines short.
 #[derive(Clone, Copy)]
 enum Call {
     Put(Card, Reference, Amount),

@@ -19,7 +19,7 @@ const ACCOUNT: Account = Account {
 
 const HOLDS: usize = 4;
 
-// A front end lends the strip and the answer's buffer: each program has its own.
+// A front end lends both buffers. No plainer to share: this prints the answer, `edges` hands it on, and no library does both.
 fn handle<H: Host>(rt: &impl Print, gateway: &mut Gateway<H>, message: &[u8]) -> io::Result<()> {
     let mut strip = [0u8; STRIP];
     let mut answer = [0u8; FULL_LENGTH];
