@@ -1,9 +1,8 @@
 //! A host that keeps holds against the balances of accounts.
 ghost use Rattle.std.specs.Prelude.{◌≡◌, ◌+◌, ◌<◌, map, length, replicate, IfSome, is_some, nat_le};
-ghost use Rattle.host.specs.Meaning.{PutMeans, ReadMeans, put_reply};
+ghost use Rattle.host.specs.Meaning.{PutMeans, ReadMeans};
 ghost use Rattle.host.specs.Parts.{HoldsNothing, heard_puts, heard_reads};
-ghost use Rattle.host.specs.declared.Fate.TheVariants.{Heard};
-ghost use Rattle.hosts.specs.Book.{book_assents, free_hold, freed, has_key, held_in, holds_after, is_account, other_amount, other_holds, place_for, written};
+ghost use Rattle.hosts.specs.Book.{free_hold, freed, has_key, holds_after, is_account, other_amount, other_holds, place_for, written};
 ghost use Rattle.hosts.specs.BookHost.{BookWritten, book_assent, book_held};
 
 use crate::keeper::{self, Keeper};

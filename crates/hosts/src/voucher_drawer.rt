@@ -1,10 +1,8 @@
 //! A host over prepaid vouchers, each good for one reference at a time.
 ghost use Rattle.std.specs.Prelude.{◌≡◌, map, Some};
-ghost use Rattle.rows.specs.First.{update_first};
-ghost use Rattle.host.specs.Meaning.{PutMeans, ReadMeans, put_reply};
+ghost use Rattle.host.specs.Meaning.{PutMeans, ReadMeans};
 ghost use Rattle.host.specs.Parts.{HoldsNothing, heard_puts, heard_reads};
-ghost use Rattle.host.specs.declared.Fate.TheVariants.{Heard};
-ghost use Rattle.hosts.specs.Drawer.{changed, drawer_assents, drawer_holds, held_under, is_voucher, raisable, unused, vouchers_after, vouchers_written};
+ghost use Rattle.hosts.specs.Drawer.{changed, held_under, is_voucher, raisable, unused, vouchers_after, vouchers_written};
 ghost use Rattle.hosts.specs.DrawerHost.{DrawerWritten, drawer_assent, drawer_held};
 
 use crate::keeper::{self, Keeper};
