@@ -1,7 +1,6 @@
 // What captures, credits and their reversals make of the books, and their answers.
-ghost use Rattle.std.specs.Prelude.{◌≡◌, suc, ◌<◌, ◌≤◌, true, [], ◌∷◌, length, pos, ◌+ℤ◌, ◌-ℤ◌, is_some, Some, None};
-ghost use Rattle.rules.specs.Checks.{among, book_checks, refusal};
-ghost use Rattle.rules.specs.Ledger.{batch_row, facts_of, purchase_row};
+ghost use Rattle.std.specs.Prelude.{◌≡◌, suc, ◌<◌, ◌≤◌, true, length, pos, ◌+ℤ◌, ◌-ℤ◌, is_some, Some};
+ghost use Rattle.rules.specs.Ledger.{batch_row, purchase_row};
 ghost use Rattle.rules.specs.Rules.{left_of, noted, on_batch, on_purchase, uncalled, with_captured, with_credited, with_total};
 ghost use Rattle.rules.specs.declared.way.Way.TheVariants.{Through};
 ghost use Rattle.gateway.specs.Performing.{Booked, Passed};

@@ -1,7 +1,6 @@
 //! The gateway: its books, the host behind it, and performing a message.
-ghost use Rattle.std.specs.Prelude.{◌≡◌, ◌≤◌, IfOk, IfErr, None};
-ghost use Rattle.rules.specs.Checks.{book_checks, refusal};
-ghost use Rattle.rules.specs.Ledger.{facts_of, no_ledger};
+ghost use Rattle.std.specs.Prelude.{◌≡◌, IfOk, IfErr};
+ghost use Rattle.rules.specs.Ledger.{no_ledger};
 ghost use Rattle.rules.specs.Rules.{card_of, on_put, on_read, put_of, read, reference_of, way};
 ghost use Rattle.rules.specs.declared.way.Way.TheVariants.{Retry, Through};
 ghost use Rattle.law.specs.Carried.{BeginsLaw, CarriesLaw};

@@ -1,5 +1,5 @@
 // Opening: from the bytes of a message to the message, or to the first check that fails.
-ghost use Rattle.std.specs.Prelude.{◌≡◌, ◌≤◌, ◌&&◌, length, replicate, if◌then◌else◌, Some, None};
+ghost use Rattle.std.specs.Prelude.{◌≡◌, length, replicate, if◌then◌else◌, Some, None};
 ghost use Rattle.wire.specs.Answered.{answered};
 ghost use Rattle.wire.specs.Card.{well_packed, card_number};
 ghost use Rattle.fields.specs.Field.{stands};
