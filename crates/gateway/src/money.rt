@@ -7,7 +7,6 @@ ghost use Rattle.gateway.specs.Performing.{Booked, Passed};
 ghost use Rattle.rules.specs.Sound.{most_pence, most_total, size, sound_purchase, within};
 
 use crate::books::Books;
-use fields::kind::Kind;
 use rules::batch::Batch;
 use rules::checks::uncredited;
 use rules::outcome::{Outcome, Performed};
@@ -16,7 +15,7 @@ use wire::message::Fields;
 use wire::opened::Opened;
 
 // A batch with an amount added to its total. An amount has no sign, so to add one and to take one are two functions.
-// The bound is asked here and not kept by a batch: it grows with the remembered answers, which a batch does not know.
+// The bound is asked here and not kept by a batch, which does not know how many messages have moved its total.
 fn added(b: Batch, amount: u64) -> Batch
     requires small { amount ≤ most_pence }
     requires bound { size b.total ≤ most_total 256 }
@@ -98,8 +97,8 @@ impl Books {
         }
     }
 
-    // Captures, credits and their reversals have one form and four bodies: each rewrites its two rows in its own way, and
-    // asks what only the books and the message together know, that no check refuses it.
+    // Captures, credits and their reversals have one form and four bodies: each rewrites its two rows in its own way. Each
+    // asks that no check refuses: a value that lends the books with that fact would be made and taken apart in each.
     // A capture is of so much of what is authorised, in the message's batch.
     pub(crate) fn capture(&mut self, message: &Opened) -> Performed
         requires kind { message.now.fields.kind ≡ 3 }

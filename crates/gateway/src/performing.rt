@@ -17,7 +17,7 @@ use std::alloc::{AllocFailed, Global};
 use wire::opened::Opened;
 
 /// A gateway over a host. Neither its books nor its host can be written from outside.
-// The contracts name its books and its host one by one, since the law speaks of the two and knows no gateway.
+// The contracts name its books and its host one by one, as the law does, which knows no gateway.
 #[derive(Drop)]
 pub struct Gateway<H> {
     books: Books,

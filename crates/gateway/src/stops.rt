@@ -1,8 +1,6 @@
 // What a refusal leaves in the books.
-ghost use Rattle.std.specs.Prelude.{◌≡◌, ◌<◌, true, not, ◌&&◌, [], ◌∷◌, length, ◌==◌};
-ghost use Rattle.rules.specs.Checks.{among};
-ghost use Rattle.rules.specs.Outcome.{outcome_code};
-ghost use Rattle.rules.specs.Rules.{remembers, uncalled};
+ghost use Rattle.std.specs.Prelude.{◌≡◌, ◌<◌, true, length, ◌==◌};
+ghost use Rattle.rules.specs.Rules.{is_forgotten, remembers, uncalled};
 ghost use Rattle.rules.specs.declared.way.Way.TheVariants.{Stopped};
 ghost use Rattle.gateway.specs.Performing.{Booked};
 
@@ -18,18 +16,15 @@ fn is_inquiry(message: &Opened) -> bool
     matches!(message.kind(), Kind::Inquiry)
 }
 
-// An inquiry is never remembered, nor a message refused because its request number is used or the memory is full.
-fn remembers(inquiry: bool, outcome: Outcome) -> bool
-    ensures { result ≡ (not inquiry && not (among (outcome_code outcome) (8 ∷ 9 ∷ []))) }
+// Refused because its request number is used, or because the memory is full.
+fn is_forgotten(outcome: Outcome) -> bool
+    ensures { result ≡ is_forgotten outcome }
 {
-    match outcome {
-        Outcome::RequestNumberUsed | Outcome::MemoryFull => false,
-        _ => !inquiry,
-    }
+    matches!(outcome, Outcome::RequestNumberUsed | Outcome::MemoryFull)
 }
 
 impl Books {
-    // A message that a check refuses moves nothing; its refusal is remembered, if such a refusal is.
+    // A message that a check refuses moves nothing. Its refusal is remembered, but for an inquiry's and those that are forgotten.
     pub(crate) fn stop(&mut self, message: &Opened, outcome: Outcome) -> Performed
         requires { remembers message.now.fields outcome ≡ true → length self.old.answers < 256 }
         ensures { Booked (Stopped outcome) message.now.fields self.old uncalled result self.new }
@@ -38,7 +33,7 @@ impl Books {
             outcome,
             amount: refused_amount(message),
         };
-        if remembers(is_inquiry(message), outcome) {
+        if !is_inquiry(message) && !is_forgotten(outcome) {
             self.remember(&message.fields(), answer);
         }
         answer

@@ -163,6 +163,7 @@ impl<'a, 'h> AccountBook<'a, 'h> {
     }
 
     /// What is held for the pair.
+    // The public name of the keepers' own word, which is not public.
     pub fn held(&self, pair: Pair) -> Amount
         ensures { result ≡ book_held self.now pair.card pair.reference }
     {

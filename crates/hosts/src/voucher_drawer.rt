@@ -114,6 +114,7 @@ impl<'v> VoucherDrawer<'v> {
     }
 
     /// What is held for the pair.
+    // The public name of the keepers' own word, which is not public.
     pub fn held(&self, pair: Pair) -> Amount
         ensures { result ≡ drawer_held self.now pair.card pair.reference }
     {

@@ -1,6 +1,5 @@
 -- A test that every row passes, after a row is looked up, rewritten or added.
-use Rattle.std.proofs.Common.{◌≡◌, ◌&&◌, Bool, true, false, cond, List, [], ◌∷◌, ◌++◌, Some, None, sym, refl, ap, ◌∙◌}
-use Rattle.std.proofs.lemmas.List.Folds.{list_all-append}
+use Rattle.std.proofs.Common.{◌≡◌, ◌&&◌, Bool, true, false, cond, List, [], ◌∷◌, Some, None, sym, refl, ap, ◌∙◌}
 use Rattle.std.proofs.lemmas.Bool.{and_parts, and_from}
 use Rattle.std.specs.List.{list_all}
 use Rattle.rows.specs.First.{row_with, update_first}
@@ -15,10 +14,7 @@ module _ {R : Type 0} (test : R → Bool) where
         | false ↦ λ later. every_row sought rows row (and_parts (test x) (list_all test rows) all).1 later
       ] is
 
-  -- they pass with one more that does, or with one rewritten to such
-  pub every_push : (rows : List R) (row : R) → list_all test rows ≡ true → test row ≡ true → list_all test (rows ++ row ∷ []) ≡ true
-  every_push rows row all ok = list_all-append test rows (row ∷ []) ∙ and_from (list_all test rows) (test row && true) all (and_from (test row) true ok refl)
-
+  -- they pass with one rewritten to such as does
   pub every_update : (sought : R → Bool) (rows : List R) (row : R) → list_all test rows ≡ true → test row ≡ true → list_all test (update_first sought (λ _. row) rows) ≡ true
   every_update sought [] row all ok = refl
   every_update sought (x ∷ rows) row all ok =

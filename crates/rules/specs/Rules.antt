@@ -202,9 +202,12 @@ answer_by Through l m reply = answered l m reply
 abbrev pub answer_of : Ledger → Fields → Reply → Performed
 answer_of l m reply = answer_by (way l m) l m reply
 
--- inquiries are never remembered, and a message refused by 8 or 9 is not
+-- a message refused by 8 or 9 is forgotten, and inquiries are never remembered
+abbrev pub is_forgotten : Outcome → Bool
+is_forgotten o = among (outcome_code o) (8 ∷ 9 ∷ [])
+
 abbrev pub remembers : Fields → Outcome → Bool
-remembers m o = not (m.kind == 9) && not (among (outcome_code o) (8 ∷ 9 ∷ []))
+remembers m o = not (m.kind == 9) && not (is_forgotten o)
 
 -- a message and its answer take a new row
 abbrev pub noted : Fields → Performed → Ledger → Ledger

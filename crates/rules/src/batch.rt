@@ -9,7 +9,7 @@ use wire::message::Fields;
 pub struct Batch {
     pub course: u32,
     pub number: u32,
-    // beside the total and not in an enum with it: a closed batch keeps its total, and answers it
+    // beside the total and not in an enum with it: a closed batch keeps its total
     pub closed: bool,
     // captures and credit reversals less credits and capture reversals, in pence
     pub total: i64,

@@ -1,5 +1,5 @@
 // When two XIDs and two messages are the same.
-// Both are `==`, under the names that the rules use.
+// Both are `==`, each under a name that says what is compared.
 ghost use Rattle.std.specs.Prelude.{◌≡◌};
 ghost use Rattle.wire.specs.Bytes.{same_bytes};
 ghost use Rattle.rules.specs.Same.{same_fields};

@@ -36,7 +36,8 @@ pub fn passes_luhn(digits: &[u8]) -> bool
 }
 
 // The two halves of each byte, the higher first.
-// By index, as in `join`: what is written through chunks or a zip of a slice is not known to a proof afterwards.
+// By index, as in `join`, two places for each byte: what is written through chunks, or beside a zip of chunks, is not
+// known to a proof afterwards.
 pub fn split(bytes: &[u8; 10]) -> [u8; 20]
     ensures { result ≡ halves bytes.now }
 {

@@ -1,13 +1,8 @@
-use Rattle.std.proofs.Common.{◌≡◌, ℕ, cond, eqb, ◌⊎◌, ⊎_elim, [], ◌∷◌, sym, refl, ap, ◌∙◌, subst}
+use Rattle.std.proofs.Common.{◌≡◌, cond, eqb, [], ◌∷◌, sym, ap, ◌∙◌}
 use Rattle.fields.specs.Kind.{kind_number}
-use Rattle.fields.specs.declared.kind.Kind.{Kind}
-use Rattle.fields.specs.declared.kind.Kind.TheVariants.{CapReq, CapRevReq, CredReq, CredRevReq}
-use Rattle.wire.specs.declared.message.Fields.{Fields}
 use Rattle.rules.specs.Checks.{among}
-use Rattle.rules.specs.Ledger.{Ledger}
-use Rattle.rules.specs.Rules.{Call, answered, card_of, moved, no_call, on_put, put_of, read, reference_of, remembered, through_call, uncalled}
-use Rattle.rules.specs.declared.way.Way.TheVariants.{Through}
-use Rattle.gateway.specs.Performing.{Booked, reply}
+use Rattle.rules.specs.Rules.{answered, card_of, moved, no_call, on_put, put_of, read, reference_of, remembered, through_call}
+use Rattle.gateway.specs.Performing.{reply}
 use Rattle.gateway.proofs.performing.Gateway.through.Goals as goal
 
 -- the put of an authorisation reversal is the call that it makes
