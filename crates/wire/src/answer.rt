@@ -56,7 +56,8 @@ pub fn write_full(answer: &Answer, buffer: &mut [u8]) -> Result<usize, Refusal>
     lay(FULL, &Parts::from(answer), buffer)
 }
 
-// Writes a short answer likewise, and answers its length and no slice for the same reason.
+// Writes a short answer likewise, and answers its length and no slice for the same reason. Any code is written, so it is
+// a byte and no enum.
 pub fn write_short(code: u8, buffer: &mut [u8]) -> Result<usize, Refusal>
     ensures value { numbered result ≡ length_written (short_into (length buffer.old) code) }
     ensures after { buffer.new ≡ over_front (short_into (length buffer.old) code) buffer.old }
