@@ -199,7 +199,7 @@ fn new_gateway<'h>(
     alloc: Global,
     holds: &'h mut [Hold],
     marks: &[u8],
-) -> anyhow::Result<Gateway<BadLine<AccountBook<'h, 'h>>>> {
+) -> anyhow::Result<Gateway<BadLine<AccountBook<'h>>>> {
     let line = BadLine::new(AccountBook::new(&ACCOUNTS, holds), marks);
     let Ok(gateway) = Gateway::new(alloc, line) else {
         return Err(anyhow!("no memory for the books"));

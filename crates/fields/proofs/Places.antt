@@ -1,11 +1,11 @@
 -- What is known of the width table and of the places that it gives.
-use Rattle.std.proofs.Common.{◌≡◌, ℕ, zero, suc, ◌+◌, ◌-◌, ◌*◌, ◌/◌, ◌%◌, ◌^◌, ◌<◌, ◌≤◌, Bool, true, cond, ◌&&◌, eqb, leb, ◌⊎◌, List, [], ◌∷◌, get_or, drop, sym, refl, ap, ◌∙◌, inl, inr, ⊎_elim, div-one, add-one, arith}
+use Rattle.std.proofs.Common.{◌≡◌, ℕ, zero, suc, ◌+◌, ◌-◌, ◌*◌, ◌/◌, ◌%◌, ◌^◌, ◌<◌, ◌≤◌, Bool, true, false, cond, ◌&&◌, eqb, leb, ◌⊎◌, List, [], ◌∷◌, get_or, drop, sym, refl, ap, ◌∙◌, inl, inr, ⊎_elim, div-one, add-one, arith}
 use native.Mathlib.Nat.{div-eq_of_lt}
 use lib.Count.{ones, ones_step}
 use Rattle.std.proofs.lemmas.Bool.{and_parts, leb-true, cond_both, cases_lt}
 use Rattle.std.proofs.lemmas.Nat.{mod_below, shr-shr}
 use Rattle.std.proofs.lemmas.Bool.Decides.{nat_tests}
-use Rattle.fields.specs.Field.{widths, width, stands, widths_to, fields_to}
+use Rattle.fields.specs.Field.{widths, width, stands, widths_to, fields_to, fields_from}
 
 abbrev pub none_is_above : ℕ → List ℕ → Bool
 none_is_above most [] = true
@@ -46,6 +46,13 @@ widths_to_room map bit (suc n) before there =
     (λ same. rw (same) (let here = ap (λ t. widths_to map n + cond t (width n) 0) (rw same at there) in omega (arith, here)))
     (λ below. omega (arith, widths_to_room map bit n below there))
     (last_or_before bit n before)
+
+-- past a field that stands one fewer stands, past a field that is lacking as many
+pub fields_from_there : (map bit : ℕ) → stands map bit ≡ true → fields_from map (bit + 1) ≡ fields_from map bit - 1
+fields_from_there map bit there = rw add-one (let one = ap {B = ℕ} (λ t. cond t 1 0) there in omega (arith, one))
+
+pub fields_from_lacking : (map bit : ℕ) → stands map bit ≡ false → fields_from map (bit + 1) ≡ fields_from map bit
+fields_from_lacking map bit lacks = rw add-one (let none = ap {B = ℕ} (λ t. cond t 1 0) lacks in omega (arith, none))
 
 bit_counts : (q : ℕ) → q % 2 ≡ cond (eqb (q % 2) 1) 1 0
 bit_counts q = let low = mod_below q 2 (omega arith) in grind (arith, nat_tests)

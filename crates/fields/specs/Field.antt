@@ -42,3 +42,7 @@ length_under map = place map 16
 abbrev pub fields_to : ℕ → ℕ → ℕ
 fields_to map zero = 0
 fields_to map (suc n) = fields_to map n + cond (stands map n) 1 0
+
+-- how many stand from the field of this bit on
+abbrev pub fields_from : ℕ → ℕ → ℕ
+fields_from map bit = fields_to map 16 - fields_to map bit

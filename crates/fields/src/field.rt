@@ -2,14 +2,13 @@
 ghost use Rattle.std.specs.Prelude.{◌≡◌, ◌<◌, ◌≤◌, count_ones};
 ghost use Rattle.fields.specs.Field.{bit_of, width, stands, widths_to, place, length_under, fields_to};
 
-// A map has sixteen bits, the highest for field 1.
+/// How many bits a map has, the highest for field 1.
 pub const FIELDS: usize = 16;
 
 // The width of each field in bytes, by bit. The last eight are reserved and never set.
-// A table by bit and not a match by field: the reserved bits have a width too, and no field.
 const WIDTHS: [usize; 16] = [1, 8, 4, 20, 10, 8, 4, 1, 0, 0, 0, 0, 0, 0, 0, 0];
 
-// The fields in use, each with its bit counted from the highest.
+/// The fields in use, each with its bit counted from the highest.
 #[derive(Clone, Copy, PartialEq, Eq, Hash, Debug)]
 pub enum Field {
     Kind = 0,
@@ -23,13 +22,14 @@ pub enum Field {
 }
 
 impl Field {
-    // By a name and not by `From`: a bit is a property of a field, and no other form of it.
+    /// The field's bit in a map, counted from the highest: 0 for field 1.
     pub fn bit(self) -> usize
         ensures { result ≡ bit_of self }
     {
         self as usize
     }
 
+    /// How many bytes the field takes up.
     pub fn width(self) -> usize
         ensures { result ≡ width (bit_of self) }
     {
@@ -44,7 +44,7 @@ fn width_at(bit: usize) -> usize
     WIDTHS[bit]
 }
 
-// Which fields a message has, a bit for each.
+/// Which fields a message has: a bit for each, the highest for field 1.
 #[derive(Clone, Copy, PartialEq, Eq, Hash, Debug)]
 pub struct Map {
     pub bits: u16,
@@ -59,7 +59,6 @@ impl Map {
     }
 
     // What the fields below this bit take up together.
-    // A loop: the sum of a chain asks for a bound on all that it adds, which the table gives only bit by bit.
     fn widths_to(self, end: usize) -> usize
         requires { end ≤ 16 }
         ensures { result ≡ widths_to self.bits end }
@@ -73,27 +72,28 @@ impl Map {
         total
     }
 
+    /// Whether a message with this map has the field.
     pub fn has(self, field: Field) -> bool
         ensures { result ≡ stands self.bits (bit_of field) }
     {
         self.has_bit(field.bit())
     }
 
-    // Where a field begins: after the two bytes of the map and the fields before it.
+    /// The place of a field's first byte: after the two bytes of the map and the fields before it.
     pub fn place(self, field: Field) -> usize
         ensures { result ≡ place self.bits (bit_of field) }
     {
         2 + self.widths_to(field.bit())
     }
 
-    // How long a message with this map is.
+    /// How many bytes a message with this map has.
     pub fn length(self) -> usize
         ensures { result ≡ length_under self.bits }
     {
         2 + self.widths_to(FIELDS)
     }
 
-    // How many fields a message with this map has: as many as the map has standing bits.
+    /// How many fields a message with this map has: as many as the map has standing bits.
     pub fn count(self) -> u32
         ensures value { result ≡ count_ones self.bits }
         ensures counted { result ≡ fields_to self.bits 16 }

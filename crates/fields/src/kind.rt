@@ -7,9 +7,10 @@ use crate::field::{Field, Map};
 use crate::refusal::Refusal;
 use std::fmt;
 
-// The largest amount that a message may carry: one penny under a million pounds.
+/// The largest amount in pence that a message may carry: one penny under a million pounds.
 pub const MOST_PENCE: u64 = 99_999_999;
 
+/// The nine kinds of message, each with its number on the wire. From any other number comes `Refusal::UnknownKind`.
 #[derive(Clone, Copy, PartialEq, Eq, Hash, Debug)]
 pub enum Kind {
     AuthReq = 1,
@@ -53,6 +54,7 @@ impl TryFrom<u8> for Kind {
 }
 
 impl Kind {
+    /// The map of every message of this kind.
     pub fn map(self) -> Map
         ensures { result.bits ≡ map_of (kind_number self) }
     {
@@ -67,12 +69,14 @@ impl Kind {
         Map { bits }
     }
 
+    /// Whether a message of this kind has the field.
     pub fn has(self, field: Field) -> bool
         ensures { result ≡ stands (map_of (kind_number self)) (bit_of field) }
     {
         self.map().has(field)
     }
 
+    /// How many bytes a message of this kind has.
     pub fn length(self) -> usize
         ensures value { result ≡ length_of (kind_number self) }
         ensures table { KindsComeOut }
@@ -80,7 +84,7 @@ impl Kind {
         self.map().length()
     }
 
-    // Whether a message of this kind may carry this amount; a kind without an amount has 0.
+    /// Whether a message of this kind may carry this amount in pence; a kind without an amount has 0.
     pub fn allows(self, amount: u64) -> bool
         ensures { result ≡ amount_allowed (kind_number self) amount }
     {
@@ -92,7 +96,7 @@ impl Kind {
         least <= amount && amount <= most
     }
 
-    // The name of the message.
+    /// The name of the message: SET's, and ours where it has none.
     pub fn name(self) -> &'static str
         ensures { result.now ≡ kind_name self }
     {

@@ -5,7 +5,7 @@ ghost use Rattle.fields.specs.Record.{seen, first_record, records_in, records_le
 use std::error::Error;
 use std::fmt;
 
-// A length byte, and fewer bytes after it than it says.
+/// A length byte, and fewer bytes after it than it says.
 #[derive(Clone, Copy, PartialEq, Eq, Debug)]
 pub struct Cut;
 
@@ -21,7 +21,7 @@ impl fmt::Display for Cut {
 
 impl Error for Cut {}
 
-// What stands at the front: nothing more, a cut record, or a message and the records after it.
+/// What stands at the front: nothing more, a cut record, or a message and the records after it.
 pub fn first_record(bytes: &[u8]) -> Option<Result<(&[u8], &[u8]), Cut>>
     ensures { seen result ≡ first_record bytes.now }
 {
@@ -29,13 +29,14 @@ pub fn first_record(bytes: &[u8]) -> Option<Result<(&[u8], &[u8]), Cut>>
     Some(rest.split_at_checked(usize::from(*length)).ok_or(Cut))
 }
 
-// The messages in order, and the end after a cut record.
+/// The messages in order, and the end after a cut record.
 #[derive(Clone, Copy, Debug)]
 pub struct Records<'a> {
     rest: &'a [u8],
 }
 
 impl<'a> Records<'a> {
+    /// The records in these bytes, from the first.
     pub fn new(bytes: &'a [u8]) -> Records<'a>
         ensures { records_left result ≡ records_in bytes.now }
     {

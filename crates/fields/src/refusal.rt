@@ -5,17 +5,22 @@ ghost use Rattle.fields.specs.Refusal.{refusal_number, refusal_reason};
 use std::error::Error;
 use std::fmt;
 
+/// Why a message is not opened or not written, each reason with the number that an answer has for it.
 #[derive(Clone, Copy, PartialEq, Eq, Hash, Debug)]
 pub enum Refusal {
-    // A lent buffer or the digit strip is too short.
+    /// A lent buffer or the digit strip is too short.
     ShortBuffer = 1,
-    // Under three bytes, field 1 missing, or a reserved bit set.
+    /// Under three bytes, field 1 missing, or a reserved bit set.
     NotAMessage = 2,
+    /// The kind is not 1 to 9.
     UnknownKind = 3,
+    /// The map is not the kind's.
     WrongMap = 4,
+    /// The length is not the kind's.
     WrongLength = 5,
-    // The card is not packed as it should be, or fails the Luhn check.
+    /// The card is not packed as it should be, or fails the Luhn check.
     BadCard = 6,
+    /// The amount is less or more than the kind allows.
     AmountNotAllowed = 7,
 }
 
@@ -28,6 +33,7 @@ impl From<Refusal> for u8 {
 }
 
 impl Refusal {
+    /// The reason in words.
     pub fn reason(self) -> &'static str
         ensures { result.now ≡ refusal_reason self }
     {

@@ -12,13 +12,14 @@ use Rattle.wire.specs.Checks.{first_failing, unless}
 use Rattle.wire.specs.Opening.{message_in, opening_checks, opening_on}
 use Rattle.wire.specs.RoundTrip.{Bytes}
 use Rattle.wire.specs.Strip.{blanked, strip_length}
+use Rattle.wire.specs.Writing.{bytes_for}
 use Rattle.wire.specs.declared.message.Fields.{Fields}
 use Rattle.rules.specs.Ledger.{Ledger}
 use Rattle.rules.specs.declared.outcome.Performed.{Performed}
 use Rattle.law.specs.Carried.{CarriesLaw}
 use Rattle.law.specs.History.{opened, spelling}
 use Rattle.law.specs.Reached.{full, short}
-use Rattle.law.proofs.Carrying.{carries_short, lawful, own_spelling}
+use Rattle.law.proofs.Carrying.{carries_short, lawful, spelled_so}
 use Rattle.gateway.specs.Handling.{Handles, HandlesLaw, answer_to}
 use Rattle.gateway.specs.Performing.{Performs}
 use Rattle.gateway.specs.declared.handled.Handled.{Handled}
@@ -37,7 +38,7 @@ module _ {H : Type 0} (h : HostMeaning H) (none : Bool) (bytes : List ℕ) (l : 
   pub refused_for_room : none ≡ true → Rules none (opened bytes) NoRoom l host buffer strip
   refused_for_room is =
       subst (λ t. Rules t (opened bytes) NoRoom l host buffer strip) (sym is)
-      (record { answer = refl; refused_first = λ first. refl; kind = refl; written = refl; blank = refl; books = refl; called = record { holds = λ card reference. refl; same_host = λ uncalled. refl } })
+      (record { answer = refl; refused_first = λ first. refl; kind = refl; written = refl; blank = refl; books = refl; called = record { made = refl; holds = λ card reference. refl } })
 
   pub no_room_law : none ≡ true → HandlesLaw none h.held bytes (short 1) l host l host
   no_room_law is = subst (λ t. HandlesLaw t h.held bytes (short 1) l host l host) (sym is) (λ before reached. lawful h.held before l host reached)
@@ -58,9 +59,9 @@ module _ {H : Type 0} (h : HostMeaning H) (none : Bool) (bytes : List ℕ) (l : 
           called = p.called;
         }))
 
-    pub performed_law : (m : Fields) → opened bytes ≡ Ok m → Bytes bytes → (a : Performed) → CarriesLaw h.held (spelling m) (full a) l host l' host' → HandlesLaw none h.held bytes (full a) l host l' host'
-    performed_law m is are a law =
-        subst (λ t. HandlesLaw t h.held bytes (full a) l host l' host') (sym room) (subst (λ b. CarriesLaw h.held b (full a) l host l' host') (own_spelling bytes m are is) law)
+    pub performed_law : (m : Fields) → bytes_for m ≡ bytes → (a : Performed) → CarriesLaw h.held (spelling m) (full a) l host l' host' → HandlesLaw none h.held bytes (full a) l host l' host'
+    performed_law m own a law =
+        subst (λ t. HandlesLaw t h.held bytes (full a) l host l' host') (sym room) (subst (λ b. CarriesLaw h.held b (full a) l host l' host') (spelled_so m bytes own) law)
 
     -- the bytes hold no message
     module _ (books : l' ≡ l) (same : host' ≡ host) (refusal : Refusal) (is : opened bytes ≡ Err (refusal_number refusal)) where
@@ -68,7 +69,7 @@ module _ {H : Type 0} (h : HostMeaning H) (none : Bool) (bytes : List ℕ) (l : 
       refused written =
           subst (λ t. Rules t (opened bytes) (Short refusal) l' host' buffer' strip') (sym room)
           (subst (λ o. Rules false o (Short refusal) l' host' buffer' strip') (sym is)
-          (record { answer = refl; refused_first = λ first. absurd (true≢false (sym first)); kind = refl; written = written; blank = blank; books = books; called = record { holds = λ card reference. ap (λ x. h.held x card reference) same; same_host = λ uncalled. same } }))
+          (record { answer = refl; refused_first = λ first. absurd (true≢false (sym first)); kind = refl; written = written; blank = blank; books = books; called = record { made = same; holds = λ card reference. ap (λ x. h.held x card reference) same } }))
 
       pub refused_law : Bytes bytes → HandlesLaw none h.held bytes (short (refusal_number refusal)) l host l' host'
       refused_law are =

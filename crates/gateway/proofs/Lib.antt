@@ -1,1 +1,2 @@
 pub mod Handlings
+pub mod Performances

@@ -13,6 +13,7 @@ pub record Kept (b : Inside) : Type 0 where
   pub room : 64 ≤ vec_capacity b.purchases
   pub memory : 256 ≤ vec_capacity b.answers
   pub places : 8 ≤ vec_capacity b.batches
+  pub purchases : length (vec_items b.purchases) ≤ 64
   pub few : length (vec_items b.answers) ≤ 256
   -- credited is at most captured, and captured at most a message's largest amount
   pub sound : all_sound (vec_items b.purchases) ≡ true

@@ -1,22 +1,26 @@
-// The books: purchases, remembered answers and batches. Rows are never freed, and memory is taken once, when they are made.
-// Lists and no maps: a purchase's place in its list is its reference, and what is few is searched in order.
-ghost use Rattle.std.specs.Prelude.{◌≡◌, ◌<◌, ◌≤◌, true, [], ◌∷◌, ◌++◌, IfOk, length, vec_len, vec_capacity};
-ghost use Rattle.rows.specs.First.{update_first};
-ghost use Rattle.rules.specs.Ledger.{facts_of, no_ledger, remembered_of};
-ghost use Rattle.rules.specs.Rules.{noted, on_batch, on_purchase, reference_of, replaced};
-ghost use Rattle.rules.specs.Sound.{all_sound, all_within, most_total, sound_purchase, within};
+//! The books: purchases, remembered answers and batches. Rows are never freed, and memory is taken once, when they are made.
+ghost use Rattle.std.specs.Prelude.{◌≡◌, ◌≤◌, true, IfOk, length, vec_len, vec_capacity};
+ghost use Rattle.rows.specs.First.{row_with};
+ghost use Rattle.std.specs.Option.{unwrap_or};
+ghost use Rattle.rules.specs.Ledger.{batch_row, no_batch, no_ledger, no_purchase, purchase_row, remembered_of};
+ghost use Rattle.rules.specs.Change.{Fits, FitsIn, ledger_after, rows_after};
+ghost use Rattle.rules.specs.Found.{Finds, place_in, places_of};
+ghost use Rattle.rules.specs.Sound.{most_total, sound_purchase, within};
 
-use host::Reference;
-use rows::{Keyed, find, search};
+use rows::{Keyed, search};
 use rules::batch::{Batch, BatchKey};
 use rules::facts::{ANSWERS, BATCHES, Facts, PURCHASES};
+use rules::found::{Found, Places};
 use rules::outcome::Performed;
+use rules::plan::{Change, RowWrite};
 use rules::purchase::Purchase;
 use rules::remembered::{Remembered, RequestKey};
 use std::alloc::{AllocError, Global};
 use std::marker::Model;
 use wire::message::Fields;
+use wire::opened::Opened;
 
+/// The rows of the books, in lists: a purchase's place in its list is its reference.
 #[derive(Drop)]
 pub struct Books {
     purchases: Vec<Purchase>,
@@ -37,19 +41,34 @@ impl Model for Books {
     ghost invariant = { Kept };
 }
 
-// The first row that has the key becomes this one.
-fn rewrite<R: Keyed + Copy>(rows: &mut Vec<R>, key: &R::Key, row: R)
-    ensures items { rows.new.items ≡ update_first (λ x. R.same x key.now) (λ _. row) rows.old.items }
-    ensures len { vec_len rows.new ≡ vec_len rows.old }
+/// The first row that has the key, and its place; where no row has it, the place of the next row.
+#[tactic(auto, using(rows::proofs::First::stands_from_cases, rows::proofs::First::first_from_cases))]
+fn locate<R: Keyed + Copy>(rows: &[R], key: &R::Key) -> (Option<R>, usize)
+    ensures row { result.0 ≡ row_with (λ row. R.same row key.now) rows.now }
+    ensures place { result.1 ≡ place_in (λ row. R.same row key.now) rows.now }
+    ensures within { result.1 ≤ length rows.now }
+{
+    match search(rows, key) {
+        Some(place) => (Some(rows[place]), place),
+        None => (None, rows.len()),
+    }
+}
+
+/// Writes into a list that has a place for it.
+fn write<R: Copy>(rows: &mut Vec<R>, write: RowWrite<R>)
+    requires { FitsIn (vec_capacity rows.old) (λ _. true) write rows.old.items }
+    ensures items { rows.new.items ≡ rows_after write rows.old.items }
     ensures capacity { vec_capacity rows.new ≡ vec_capacity rows.old }
 {
-    if let Some(place) = search(rows.as_slice(), key) {
-        rows[place] = row;
+    match write {
+        RowWrite::Nothing => {}
+        RowWrite::Replace(place, row) => rows[place] = row,
+        RowWrite::Append(row) => rows.push_reserved(row),
     }
 }
 
 impl Books {
-    // Empty books with room for every row.
+    /// Empty books with room for every row.
     pub(crate) fn new(heap: Global) -> Result<Books, AllocError>
         ensures { IfOk result (λ b. b ≡ no_ledger) }
     {
@@ -63,88 +82,85 @@ impl Books {
         })
     }
 
-    // What a message finds; and besides, what always holds of the rows.
-    pub(crate) fn facts(&self, m: &Fields) -> Facts
-        ensures value { result ≡ facts_of self.now m.now }
-        ensures sound { all_sound self.now.purchases ≡ true }
-        ensures totals { all_within (most_total (length self.now.answers)) self.now.batches ≡ true }
+    #[tactic(auto, using(rules::proofs::Every::every_found))]
+    fn find_purchase(&self, m: &Fields) -> (Option<Purchase>, usize)
+        ensures row { result.0 ≡ purchase_row self.now m.now }
+        ensures place { result.1 ≡ (places_of self.now m.now).purchase }
+        ensures few { result.1 ≤ 64 }
+        ensures sound { sound_purchase (unwrap_or result.0 no_purchase) ≡ true }
+    {
+        locate(self.purchases.as_slice(), &m.xid)
+    }
+
+    #[tactic(auto, using(rules::proofs::Every::every_found))]
+    fn find_batch(&self, m: &Fields) -> (Option<Batch>, usize)
+        ensures row { result.0 ≡ batch_row self.now m.now }
+        ensures place { result.1 ≡ (places_of self.now m.now).batch }
+        ensures bounded { within (most_total (length self.now.answers)) (unwrap_or result.0 no_batch) ≡ true }
+    {
+        locate(self.batches.as_slice(), &BatchKey::of(m))
+    }
+
+    fn find_answer(&self, m: &Fields) -> (Option<Remembered>, usize)
+        ensures row { result.0 ≡ remembered_of self.now m.now }
+        ensures place { result.1 ≡ (places_of self.now m.now).answer }
         ensures few { length self.now.answers ≤ 256 }
     {
-        Facts {
-            answers: self.answers.len(),
-            purchases: self.purchases.len(),
-            batches: self.batches.len(),
-            purchase: find(self.purchases.as_slice(), &m.xid),
-            batch: find(self.batches.as_slice(), &BatchKey::of(m)),
+        locate(self.answers.as_slice(), &RequestKey::of(m))
+    }
+
+    /// What the message finds, by one search of each list.
+    pub(crate) fn look_up(&self, message: &Opened) -> Found
+        ensures { Finds result self.now message.now.fields }
+    {
+        let m = message.fields();
+        let (purchase, purchase_at) = self.find_purchase(&m);
+        let (batch, batch_at) = self.find_batch(&m);
+        let (remembered, answer_at) = self.find_answer(&m);
+        Found {
+            facts: Facts {
+                answers: self.answers().len(),
+                purchases: self.purchases().len(),
+                batches: self.batches().len(),
+                purchase,
+                batch,
+            },
+            remembered,
+            places: Places {
+                purchase: purchase_at,
+                batch: batch_at,
+                answer: answer_at,
+            },
         }
     }
 
-    pub(crate) fn remembered(&self, m: &Fields) -> Option<Remembered>
-        ensures { result ≡ remembered_of self.now m.now }
+    /// Writes a change at its places, and gives its answer.
+    pub(crate) fn commit(&mut self, change: Change) -> Performed
+        requires { Fits change self.old }
+        ensures answer { result ≡ change.answer }
+        ensures books { self.new ≡ ledger_after change self.old }
     {
-        find(self.answers.as_slice(), &RequestKey::of(m))
+        write(&mut self.purchases, change.purchase);
+        write(&mut self.batches, change.batch);
+        write(&mut self.answers, change.remembered);
+        change.answer
     }
 
-    // A purchase's reference is its row number, from 1; a new purchase takes the next row.
-    pub(crate) fn reference_of(&self, m: &Fields) -> Reference
-        ensures { result ≡ reference_of self.now m.now }
+    pub(crate) fn purchases(&self) -> &[Purchase]
+        ensures { result.now ≡ self.now.purchases }
     {
-        let next = self.purchases.len();
-        let place = search(self.purchases.as_slice(), &m.xid).unwrap_or(next);
-        place as u64 + 1
+        self.purchases.as_slice()
     }
 
-    // Each caller states that there is room: a value that lends the books with that fact would be made and taken apart in each.
-    pub(crate) fn remember(&mut self, m: &Fields, answer: Performed)
-        requires { length self.old.answers < 256 }
-        ensures { self.new ≡ noted m.now answer self.old }
+    pub(crate) fn answers(&self) -> &[Remembered]
+        ensures { result.now ≡ self.now.answers }
     {
-        self.answers
-            .push_reserved(Remembered { fields: *m, answer });
+        self.answers.as_slice()
     }
 
-    // A new answer in the place of a remembered one.
-    pub(crate) fn replace_answer(&mut self, m: &Fields, answer: Performed)
-        ensures { self.new ≡ replaced m.now answer self.old }
+    pub(crate) fn batches(&self) -> &[Batch]
+        ensures { result.now ≡ self.now.batches }
     {
-        let key = RequestKey::of(m);
-        if let Some(r) = find(self.answers.as_slice(), &key) {
-            let row = Remembered {
-                fields: r.fields,
-                answer,
-            };
-            rewrite(&mut self.answers, &key, row);
-        }
-    }
-
-    // For each list a function that rewrites a row and one that adds one: each asks for what its list has to keep.
-    pub(crate) fn set_purchase(&mut self, m: &Fields, p: Purchase)
-        requires { sound_purchase p ≡ true }
-        ensures { self.new ≡ on_purchase m.now (λ _. p) self.old }
-    {
-        rewrite(&mut self.purchases, &m.xid, p);
-    }
-
-    pub(crate) fn push_purchase(&mut self, p: Purchase)
-        requires few { length self.old.purchases < 64 }
-        requires sound { sound_purchase p ≡ true }
-        ensures { self.new ≡ record { purchases = self.old.purchases ++ p ∷ []; answers = self.old.answers; batches = self.old.batches } }
-    {
-        self.purchases.push_reserved(p);
-    }
-
-    pub(crate) fn set_batch(&mut self, m: &Fields, b: Batch)
-        requires { within (most_total (length self.old.answers)) b ≡ true }
-        ensures { self.new ≡ on_batch m.now (λ _. b) self.old }
-    {
-        rewrite(&mut self.batches, &BatchKey::of(m), b);
-    }
-
-    pub(crate) fn push_batch(&mut self, b: Batch)
-        requires few { length self.old.batches < 8 }
-        requires small { within (most_total (length self.old.answers)) b ≡ true }
-        ensures { self.new ≡ record { purchases = self.old.purchases; answers = self.old.answers; batches = self.old.batches ++ b ∷ [] } }
-    {
-        self.batches.push_reserved(b);
+        self.batches.as_slice()
     }
 }

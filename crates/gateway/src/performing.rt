@@ -1,23 +1,49 @@
-//! The gateway: its books, the host behind it, and performing a message.
-ghost use Rattle.std.specs.Prelude.{◌≡◌, IfOk, IfErr};
+//! The gateway: its books, the host behind it, performing a message, and handling one from bytes to bytes.
+ghost use Rattle.std.specs.Prelude.{◌≡◌, IfOk, IfErr, length};
 ghost use Rattle.rules.specs.Ledger.{no_ledger};
-ghost use Rattle.rules.specs.Rules.{card_of, on_put, on_read, put_of, read, reference_of, way};
-ghost use Rattle.rules.specs.declared.way.Way.TheVariants.{Retry, Through};
 ghost use Rattle.law.specs.Carried.{BeginsLaw, CarriesLaw};
-ghost use Rattle.law.specs.History.{spelling};
+ghost use Rattle.wire.specs.Answer.{full_into};
+ghost use Rattle.wire.specs.Buffer.{over_front};
+ghost use Rattle.law.specs.History.{opened, spelling};
+ghost use Rattle.gateway.specs.Handling.{Handles, HandlesLaw, answer_to, given_by, no_room};
 ghost use Rattle.law.specs.Reached.{full};
-ghost use Rattle.gateway.specs.Performing.{Called, Goes, Passed, Performs, reply};
+ghost use Rattle.gateway.specs.Performing.{Performs};
 
 use crate::books::Books;
-use fields::kind::Kind;
-use host::{Host, PutReply, ReadReply};
+use crate::handled::Handled;
+use host::Host;
+use rules::batch::Batch;
 use rules::outcome::Performed;
-use rules::way::Way;
+use rules::plan::Plan;
+use rules::purchase::Purchase;
+use rules::remembered::Remembered;
 use std::alloc::{AllocFailed, Global};
+use wire::answer::{Answer, FULL_LENGTH, write_full, write_short};
+use wire::message::Fields;
 use wire::opened::Opened;
+use wire::{STRIP, open};
+
+/// There is no room: the answer buffer is shorter than a full answer, or the strip is too short.
+fn lacks_room(answer: &[u8], strip: &[u8]) -> bool
+    ensures { result ≡ no_room answer.now strip.now }
+{
+    answer.len() < FULL_LENGTH || strip.len() < STRIP
+}
+
+/// The answer to a message.
+fn answer_to(m: &Fields, performed: Performed) -> Answer
+    ensures { result ≡ answer_to m.now performed }
+{
+    Answer {
+        kind: m.kind,
+        request: m.request,
+        course: m.course,
+        amount: performed.amount,
+        code: u8::from(performed.outcome),
+    }
+}
 
 /// A gateway over a host. Neither its books nor its host can be written from outside.
-// The contracts name its books and its host one by one, as the law does, which knows no gateway.
 #[derive(Drop)]
 pub struct Gateway<H> {
     books: Books,
@@ -38,78 +64,84 @@ impl<H: Host> Gateway<H> {
         }
     }
 
-    // The put and the read differ in the call and in the type of its reply, and share `pair_of`.
-    // The put of a message's amount, under its purchase's card and reference.
-    fn put(&mut self, message: &Opened) -> PutReply
-        ensures answer { on_put result ≡ reply H.Host self.old.host (put_of self.old.books message.now.fields) }
-        ensures called { Called H.Host (put_of self.old.books message.now.fields) self.old.host self.new.host }
-        ensures books { self.new.books ≡ self.old.books }
-    {
-        let pair = self.books.pair_of(message);
-        self.host.put(pair, message.fields().amount)
-    }
-
-    // The read of what is held under the purchase's card and reference.
-    fn read(&mut self, message: &Opened) -> ReadReply
-        ensures answer { on_read result ≡ reply H.Host self.old.host (read (card_of self.old.books message.now.fields) (reference_of self.old.books message.now.fields)) }
-        ensures called { Called H.Host (read (card_of self.old.books message.now.fields) (reference_of self.old.books message.now.fields)) self.old.host self.new.host }
-        ensures books { self.new.books ≡ self.old.books }
-    {
-        let pair = self.books.pair_of(message);
-        self.host.read(pair)
-    }
-
-    // A message that is past all checks, by its kind, as in the rules: what a kind does is a function of its own.
-    fn through(&mut self, message: &Opened) -> Performed
-        requires { Passed self.old.books message.now.fields }
-        ensures { Goes H.Host Through message.now.fields self.old.books self.old.host result self.new.books self.new.host }
-    {
-        let m = message.fields();
-        match message.kind() {
-            Kind::AuthReq => {
-                let reply = self.put(message);
-                self.books.authorise(message, reply)
-            }
-            Kind::AuthRevReq => {
-                let reply = self.put(message);
-                self.books.lower(message, reply)
-            }
-            Kind::CapReq => self.books.capture(message),
-            Kind::CapRevReq => self.books.reverse_capture(message),
-            Kind::CredReq => self.books.credit(message),
-            Kind::CredRevReq => self.books.reverse_credit(message),
-            Kind::BatchOpen => self.books.open_batch(&m),
-            Kind::BatchClose => self.books.close_batch(&m),
-            Kind::Inquiry => Performed::from(self.read(message)),
-        }
-    }
-
-    // A repeat of a message at which the host was silent: its put is made again.
-    fn put_again(&mut self, message: &Opened) -> Performed
-        ensures { Goes H.Host Retry message.now.fields self.old.books self.old.host result self.new.books self.new.host }
-    {
-        let reply = self.put(message);
-        self.books.retry(message, reply)
-    }
-
-    // The way that the rules give: one case for each of the four, as in the rules.
-    fn go(&mut self, message: &Opened) -> Performed
-        ensures { Goes H.Host (way self.old.books message.now.fields) message.now.fields self.old.books self.old.host result self.new.books self.new.host }
-    {
-        match self.books.way(message) {
-            Way::Again(answer) => answer,
-            Way::Retry => self.put_again(message),
-            Way::Stopped(outcome) => self.books.stop(message, outcome),
-            Way::Through => self.through(message),
-        }
-    }
-
     /// Performs an opened message and uses it up: it is answered, and moves books and host, as the rules say. It counts as
     /// handling the message's bytes, and carries the law over runs.
     pub fn perform(&mut self, message: Opened) -> Performed
         ensures rules { Performs H.Host message.fields self.old.books self.old.host result self.new.books self.new.host }
         ensures law { CarriesLaw H.Host.held (spelling message.fields) (full result) self.old.books self.old.host self.new.books self.new.host }
     {
-        self.go(&message)
+        let found = self.books.look_up(&message);
+        match found.plan(&message) {
+            Plan::Answer(answer) => answer,
+            Plan::Commit(change) => self.books.commit(change),
+            Plan::Put(put) => {
+                let reply = self.host.put(put.pair, put.fields.amount);
+                self.books.commit(put.settled(reply))
+            }
+            Plan::Read(pair) => Performed::from(self.host.read(pair)),
+        }
+    }
+
+    /// A message is performed, and its full answer written.
+    fn answer_full(&mut self, message: Opened, answer: &mut [u8]) -> Performed
+        ensures after { answer.new ≡ over_front (full_into (length answer.old) (answer_to message.fields result)) answer.old }
+        ensures rules { Performs H.Host message.fields self.old.books self.old.host result self.new.books self.new.host }
+        ensures law { CarriesLaw H.Host.held (spelling message.fields) (full result) self.old.books self.old.host self.new.books self.new.host }
+    {
+        let m = message.fields();
+        let performed = self.perform(message);
+        let _ = write_full(&answer_to(&m, performed), answer);
+        performed
+    }
+
+    /// Handles the bytes of a message: opens them on the strip, performs the message, and writes its answer into the front of
+    /// the answer buffer. A buffer under 24 bytes or a strip under 19 is refused first, and everything stays as it was.
+    pub fn handle(&mut self, message: &[u8], strip: &mut [u8], answer: &mut [u8]) -> Handled
+        ensures rules { Handles H.Host (no_room answer.old strip.old) (opened message.now) self.old.books self.old.host answer.old strip.old result self.new.books self.new.host answer.new strip.new }
+        ensures law { HandlesLaw (no_room answer.old strip.old) H.Host.held message.now (given_by result) self.old.books self.old.host self.new.books self.new.host }
+    {
+        if lacks_room(answer, strip) {
+            return Handled::NoRoom;
+        }
+        match open(message, strip) {
+            Ok(opened) => {
+                let kind = opened.kind();
+                Handled::Full(kind, self.answer_full(opened, answer))
+            }
+            Err(refusal) => {
+                let _ = write_short(u8::from(refusal), answer);
+                Handled::Short(refusal)
+            }
+        }
+    }
+}
+
+impl<H> Gateway<H> {
+    /// The purchases booked so far; the first has reference 1.
+    pub fn purchases(&self) -> &[Purchase]
+        ensures { result.now ≡ self.now.books.purchases }
+    {
+        self.books.purchases()
+    }
+
+    /// The answers remembered so far, each with its message.
+    pub fn answers(&self) -> &[Remembered]
+        ensures { result.now ≡ self.now.books.answers }
+    {
+        self.books.answers()
+    }
+
+    /// The batches opened so far, each with its total.
+    pub fn batches(&self) -> &[Batch]
+        ensures { result.now ≡ self.now.books.batches }
+    {
+        self.books.batches()
+    }
+
+    /// The host behind the gateway.
+    pub fn host(&self) -> &H
+        ensures { result.now ≡ self.now.host }
+    {
+        &self.host
     }
 }

@@ -1,7 +1,9 @@
--- The four parts of a host's meaning, as functions of the card, the reference and the amount.
+-- The parts of a host's meaning, as functions of the card, the reference and the amount, and what one call makes of it.
 use Rattle.std.specs.Prelude.{◌≡◌, ℕ, Bool, ◌&&◌, ◌==◌}
 use Rattle.host.specs.declared.Fate.{Fate}
 use Rattle.host.specs.declared.Fate.TheVariants.{Heard}
+use Rattle.host.specs.declared.PutReply.{PutReply}
+use Rattle.host.specs.declared.ReadReply.{ReadReply}
 
 abbrev pub CardNumber : Type 0
 CardNumber = ℕ
@@ -27,6 +29,13 @@ PutFates = CardNumber → ReferenceNumber → Pence → Fate
 -- what becomes of a read on its way
 abbrev pub ReadFates : Type 0
 ReadFates = CardNumber → ReferenceNumber → Fate
+
+-- what one call makes of a host: the host before, what was asked, the answer, and the host after
+abbrev pub PutSteps : Type 0 → Type 1
+PutSteps H = H → CardNumber → ReferenceNumber → Pence → PutReply → H → Type 0
+
+abbrev pub ReadSteps : Type 0 → Type 1
+ReadSteps H = H → CardNumber → ReferenceNumber → ReadReply → H → Type 0
 
 -- two cards, and two pairs of a card and a reference, are the same
 abbrev pub same_card : CardNumber → CardNumber → Bool

@@ -3,7 +3,7 @@
 #![tactic(auto)]
 
 ghost use Rattle.host.specs.Meaning.{PutMeans, ReadMeans};
-ghost use Rattle.host.specs.Parts.{Assents, Holdings, PutFates, ReadFates};
+ghost use Rattle.host.specs.Parts.{Assents, Holdings, PutFates, PutSteps, ReadFates, ReadSteps};
 ghost use Rattle.host.specs.Words.{put_word, read_words};
 ghost use Rattle.std.specs.Prelude.{Some};
 
@@ -47,8 +47,9 @@ pub enum ReadReply {
     Silent,
 }
 
-/// A host. The ghost members are worked out from what it contains now; the fates and the assents
-/// after a call are free, and every amount held is not.
+/// A host. The first four ghost members are its meaning, worked out from what it contains now; the
+/// fates and the assents after a call are free, and every amount held is not. The last two say what
+/// exactly one call makes of the host, so that a caller can promise that it made this one and no other.
 pub trait Host {
     ghost held: { Self → Holdings };
 
@@ -58,13 +59,21 @@ pub trait Host {
 
     ghost read_fate: { Self → ReadFates };
 
+    // the host before one put for a card under a reference of an amount, its answer, and the host after
+    ghost put_step: { PutSteps Self };
+
+    // the host before one read for a card under a reference, its answer, and the host after
+    ghost read_step: { ReadSteps Self };
+
     /// Asks that the amount held for the pair become this one.
     fn put(&mut self, pair: Pair, amount: Amount) -> PutReply
-        ensures means { PutMeans (put_fate self.old) (held self.old) (assent self.old) (held self.new) pair.card pair.reference amount result };
+        ensures means { PutMeans (put_fate self.old) (held self.old) (assent self.old) (held self.new) pair.card pair.reference amount result }
+        ensures step { put_step self.old pair.card pair.reference amount result self.new };
 
     /// Asks what is held for the pair.
     fn read(&mut self, pair: Pair) -> ReadReply
-        ensures means { ReadMeans (read_fate self.old) (held self.old) (held self.new) pair.card pair.reference result };
+        ensures means { ReadMeans (read_fate self.old) (held self.old) (held self.new) pair.card pair.reference result }
+        ensures step { read_step self.old pair.card pair.reference result self.new };
 }
 
 impl fmt::Display for PutReply {

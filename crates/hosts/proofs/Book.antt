@@ -1,16 +1,16 @@
 -- Why the rows of an account book hold what the host's meaning says once an amount is written.
-use Rattle.std.proofs.Common.{◌≡◌, ℕ, zero, suc, Bool, true, false, cond, ◌||◌, eqb, leb, ◌⊎◌, List, map, length, get_or, set, replicate, is_some, Some, None, Option, sym, refl, ap, ◌∙◌, inl, inr, arith}
+use Rattle.std.proofs.Common.{◌≡◌, ℕ, ◌<◌, zero, suc, Bool, true, false, cond, ◌||◌, eqb, leb, ◌⊎◌, List, map, length, get_or, set, replicate, is_some, Some, None, Option, sym, refl, ap, ◌∙◌, inl, inr, arith}
 use Rattle.std.specs.Option.{option_or}
 use Rattle.std.specs.List.{AllWithin}
 use Rattle.std.proofs.lemmas.Bool.{and_parts, both_ways, cond-false, cond_both, eqb-true}
 use Rattle.std.proofs.lemmas.Bool.Decides.{nat_tests}
 use Rattle.std.proofs.lemmas.List.Folds.{find_past}
 use Rattle.rows.specs.First.{first_with, Found}
-use Rattle.rows.proofs.First.{found_of_first, none_of_first, row_none, row_set_here, row_map_other, row_map_none}
+use Rattle.rows.proofs.First.{found_of_first, none_of_first, row_found, row_none, row_set_here, row_map_other, row_map_none}
 use Rattle.host.specs.Parts.{CardNumber, ReferenceNumber, Pence, HoldsNothing, SameHeld, same_pair}
 use Rattle.host.specs.Meaning.{grants, held_after}
 use Rattle.host.proofs.Meaning.{held_by_pair}
-use Rattle.hosts.specs.Book.{is_free, is_hold, free_hold, freed, amount_of, held_in, place_for, book_assents, set_at, written}
+use Rattle.hosts.specs.Book.{is_free, is_hold, free_hold, freed, amount_of, held_in, place_for, PlacedAt, book_assents, set_at, written}
 use Rattle.hosts.specs.Keeper.{granted}
 use Rattle.hosts.specs.declared.account_book.Account.{Account}
 use Rattle.hosts.specs.declared.account_book.Hold.{Hold}
@@ -38,6 +38,28 @@ module _ (holds : List Hold) (card : CardNumber) (reference : ReferenceNumber) w
 
   placed : (place : ℕ) → place_for holds card reference ≡ Some place → Placed place
   placed place e = place_cases (first_with (is_hold card reference) holds) refl place e
+
+  -- so what is held stands at the place
+  in_placed : (place : ℕ) (d : Hold) → Placed place → held_in holds card reference ≡ (get_or holds place d).amount
+  in_placed place d (inl own) = ap amount_of (row_found (is_hold card reference) holds place d own)
+  in_placed place d (inr free) =
+      ap amount_of (row_none (is_hold card reference) holds free.0) ∙ sym (eqb-true (get_or holds place d).amount 0 (free.1.passes d))
+
+  within_placed : (place : ℕ) → Placed place → place < length holds
+  within_placed place (inl own) = own.within
+  within_placed place (inr free) = free.1.within
+
+  no_own : (own : Option ℕ) → option_or own (first_with is_free holds) ≡ None → own ≡ None
+  no_own None is = refl
+  no_own (Some own) is = absurd (cc)
+
+  pub placed_at : (answer : Option ℕ) → answer ≡ place_for holds card reference → PlacedAt holds card reference answer
+  placed_at answer is = record {
+    place = is;
+    within = λ place here. within_placed place (placed place (sym is ∙ here));
+    held = λ place d here. in_placed place d (placed place (sym is ∙ here));
+    nothing = λ none. ap amount_of (row_none (is_hold card reference) holds (none_of_first (is_hold card reference) holds (no_own (first_with (is_hold card reference) holds) (sym is ∙ none))));
+  }
 
   -- a done put above 0 has a place
   has_place : (assent : Bool) (amount : Pence) → (assent ≡ true → is_some (place_for holds card reference) ≡ true) → eqb amount 0 ≡ false → grants (held_in holds card reference) assent amount ≡ true → is_some (place_for holds card reference) ≡ true

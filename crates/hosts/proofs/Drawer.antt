@@ -1,19 +1,34 @@
 -- Why the rows of a voucher drawer hold what the host's meaning says once an amount is written.
-use Rattle.std.proofs.Common.{◌≡◌, Bool, true, false, eqb, List, [], ◌∷◌, map, Some, None, Option, sym, refl, ap, ◌∙◌, subst, arith}
+use Rattle.std.proofs.Common.{◌≡◌, ℕ, Bool, true, false, eqb, List, [], ◌∷◌, map, Some, None, Option, sym, refl, ap, ◌∙◌, subst, arith}
 use Rattle.std.specs.Option.{option_map}
 use Rattle.std.proofs.lemmas.Bool.{cond_both, eqb-true}
 use Rattle.std.proofs.lemmas.Bool.Decides.{nat_tests}
-use Rattle.rows.specs.First.{row_with}
-use Rattle.rows.proofs.First.{row_update, row_update_other}
+use Rattle.rows.specs.First.{row_with, Found, FirstOrNone}
+use Rattle.rows.proofs.First.{row_found, row_none, row_update, row_update_other}
 use Rattle.host.specs.Parts.{CardNumber, ReferenceNumber, Pence, HoldsNothing, SameHeld, same_pair}
 use Rattle.host.specs.Meaning.{grants, held_after}
 use Rattle.host.proofs.Meaning.{held_by_pair}
-use Rattle.hosts.specs.Drawer.{is_voucher, unused, held_under, raisable, changed, drawer_holds, drawer_assents, vouchers_written}
+use Rattle.hosts.specs.Drawer.{is_voucher, FoundAt, unused, held_under, raisable, changed, drawer_holds, drawer_assents, vouchers_written}
 use Rattle.hosts.specs.Keeper.{granted}
 use Rattle.hosts.specs.declared.voucher_drawer.Voucher.{Voucher}
 
 abbrev pub no_voucher : Voucher
 no_voucher = record { card = 0; face = 0; reference = 0; held = 0 }
+
+-- what a search for a card's voucher answers, for one that holds on to it
+pub found_at : (vouchers : List Voucher) (card : CardNumber) (answer : Option ℕ) → FirstOrNone (is_voucher card) vouchers answer → FoundAt vouchers card answer
+found_at vouchers card None every =
+    record { found = λ place is. absurd (cc); voucher = λ place d is. absurd (cc); none = λ is. row_none (is_voucher card) vouchers every; absent = λ is. every }
+found_at vouchers card (Some at) found =
+    record {
+      found = λ place is. subst (Found (is_voucher card) vouchers) (same at place is) found;
+      voucher = λ place d is. row_found (is_voucher card) vouchers place d (subst (Found (is_voucher card) vouchers) (same at place is) found);
+      none = λ is. absurd (cc);
+      absent = λ is. absurd (cc);
+    }
+  where
+    same : (a b : ℕ) → Some a ≡ Some b → a ≡ b
+    same a b is = cc
 
 module _ (reference : ReferenceNumber) (amount : Pence) where
   changed_card : (voucher : Voucher) → (changed reference amount voucher).card ≡ voucher.card

@@ -1,5 +1,5 @@
 -- An account book by its rows: what is held, what it assents to, and its rows after a put.
-use Rattle.std.specs.Prelude.{ℕ, ◌+◌, Bool, false, cond, not, ◌&&◌, List, map, is_some, Some, None, sum_by, Option, ◌==◌, nat_le, slice_set}
+use Rattle.std.specs.Prelude.{◌≡◌, ℕ, ◌+◌, ◌<◌, Bool, false, cond, not, ◌&&◌, List, map, is_some, Some, None, sum_by, Option, ◌==◌, nat_le, slice_set, slice_index_or, length}
 use Rattle.std.specs.Option.{option_or}
 use Rattle.rows.specs.First.{first_with, row_with}
 use Rattle.host.specs.Parts.{CardNumber, ReferenceNumber, Pence, Holdings, Assents, same_card, same_pair}
@@ -45,6 +45,13 @@ other_holds holds card reference = sum_by (other_amount card reference) holds
 -- where a hold of the pair is written: its row, else the first free one
 abbrev pub place_for : List Hold → CardNumber → ReferenceNumber → Option ℕ
 place_for holds card reference = option_or (first_with (is_hold card reference) holds) (first_with is_free holds)
+
+-- what stands at that place: the pair's row, or a free one, of amount 0
+pub record PlacedAt (holds : List Hold) (card : CardNumber) (reference : ReferenceNumber) (answer : Option ℕ) : Type 0 where
+  pub place : answer ≡ place_for holds card reference
+  pub within : (place : ℕ) → answer ≡ Some place → place < length holds
+  pub held : (place : ℕ) (d : Hold) → answer ≡ Some place → held_in holds card reference ≡ (slice_index_or holds place d).amount
+  pub nothing : answer ≡ None → held_in holds card reference ≡ 0
 
 -- the first account with the card counts
 abbrev pub covered : Option Account → Pence → Bool

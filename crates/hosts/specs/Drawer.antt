@@ -1,6 +1,7 @@
 -- A voucher drawer by its rows: what is held, what it assents to, and its rows after a put.
-use Rattle.std.specs.Prelude.{Bool, false, cond, ◌&&◌, ◌||◌, List, Some, None, Option, ◌==◌, nat_le}
-use Rattle.rows.specs.First.{row_with, update_first}
+use Rattle.std.specs.Prelude.{◌≡◌, ℕ, Bool, false, cond, ◌&&◌, ◌||◌, List, Some, None, Option, ◌==◌, nat_le, length, slice_index_or}
+use Rattle.std.specs.List.{AllWithin}
+use Rattle.rows.specs.First.{Found, row_with, update_first}
 use Rattle.host.specs.Parts.{CardNumber, ReferenceNumber, Pence, Holdings, Assents, same_card}
 use Rattle.hosts.specs.Keeper.{granted}
 use Rattle.hosts.specs.declared.voucher_drawer.Voucher.{Voucher}
@@ -8,6 +9,13 @@ use Rattle.hosts.specs.declared.voucher_drawer.Voucher.{Voucher}
 -- the first voucher with the card counts
 abbrev pub is_voucher : CardNumber → Voucher → Bool
 is_voucher card voucher = same_card voucher.card card
+
+-- what a search for a card's voucher has answered
+pub record FoundAt (vouchers : List Voucher) (card : CardNumber) (answer : Option ℕ) : Type 0 where
+  pub found : (place : ℕ) → answer ≡ Some place → Found (is_voucher card) vouchers place
+  pub voucher : (place : ℕ) (d : Voucher) → answer ≡ Some place → row_with (is_voucher card) vouchers ≡ Some (slice_index_or vouchers place d)
+  pub none : answer ≡ None → row_with (is_voucher card) vouchers ≡ None
+  pub absent : answer ≡ None → AllWithin (λ voucher. is_voucher card voucher ≡ false) vouchers 0 (length vouchers)
 
 -- a voucher that was never used
 abbrev pub unused : Voucher → Voucher

@@ -1,13 +1,13 @@
 //! A host that keeps holds against the balances of accounts.
-ghost use Rattle.std.specs.Prelude.{◌≡◌, ◌+◌, ◌<◌, map, length, replicate, IfSome, is_some, nat_le};
-ghost use Rattle.host.specs.Meaning.{PutMeans, ReadMeans};
+ghost use Rattle.std.specs.Prelude.{◌≡◌, ◌+◌, map, length, replicate, is_some, nat_le};
 ghost use Rattle.host.specs.Parts.{HoldsNothing, heard_puts, heard_reads};
-ghost use Rattle.hosts.specs.Book.{free_hold, freed, has_key, holds_after, is_account, other_amount, other_holds, place_for, written};
-ghost use Rattle.hosts.specs.BookHost.{BookWritten, book_assent, book_held};
+ghost use Rattle.hosts.specs.Book.{PlacedAt, free_hold, freed, has_key, is_account, other_amount, other_holds, place_for, written};
+ghost use Rattle.hosts.specs.BookHost.{BookPutStep, BookWritten, BookServes, book_assent, book_held};
+ghost use Rattle.hosts.specs.Keeper.{HeardReadStep};
 
 use crate::keeper::{self, Keeper};
 use host::{Amount, Card, Host, Pair, PutReply, ReadReply, Reference};
-use rows::{Keyed, find, search};
+use rows::{Keyed, search};
 
 #[derive(Clone, Copy, PartialEq, Eq, Debug)]
 pub struct Account {
@@ -96,9 +96,9 @@ impl Keyed for Hold {
 }
 
 /// Where a hold of the pair is written: its row, else the first free one.
+#[tactic(auto, using(rows::proofs::First::first_from_cases))]
 fn place_for(holds: &[Hold], pair: Pair) -> Option<usize>
-    ensures value { result ≡ place_for holds.now pair.card pair.reference }
-    ensures within { IfSome result (λ place. place < length holds.now) }
+    ensures { result ≡ place_for holds.now pair.card pair.reference }
 {
     search(holds, &HoldKey::Of(pair)).or_else(|| search(holds, &HoldKey::Free))
 }
@@ -129,12 +129,13 @@ fn release(holds: &mut [Hold], pair: Pair)
 }
 
 /// Writes the amount into the pair's row or the first free one; 0 frees the row.
-fn write(holds: &mut [Hold], pair: Pair, amount: Amount)
+fn write(holds: &mut [Hold], pair: Pair, found: Option<usize>, amount: Amount)
+    requires { PlacedAt holds.old pair.card pair.reference found }
     ensures { holds.new ≡ written holds.old pair.card pair.reference amount }
 {
     if amount == 0 {
         release(holds, pair);
-    } else if let Some(place) = place_for(holds, pair) {
+    } else if let Some(place) = found {
         holds[place] = Hold {
             card: pair.card,
             reference: pair.reference,
@@ -145,18 +146,21 @@ fn write(holds: &mut [Hold], pair: Pair, amount: Amount)
 
 /// Accounts that it only reads, and holds that it keeps. Every call is heard.
 #[derive(Drop)]
-pub struct AccountBook<'a, 'h> {
+pub struct AccountBook<'a> {
     accounts: &'a [Account],
-    holds: &'h mut [Hold],
+    holds: &'a mut [Hold],
 }
 
-impl<'a, 'h> AccountBook<'a, 'h> {
+impl<'a> AccountBook<'a> {
     /// A book over the accounts, with every row of the holds cleared.
     #[tactic(auto, using(crate::proofs::Book::free_holds_nothing))]
-    pub fn new(accounts: &'a [Account], holds: &'h mut [Hold]) -> AccountBook<'a, 'h>
+    pub fn new(accounts: &'a [Account], holds: &'a mut [Hold]) -> AccountBook<'a>
         ensures accounts { result.accounts.now ≡ accounts.now }
         ensures rows { result.holds.now ≡ replicate (length holds.old) free_hold }
         ensures nothing { HoldsNothing (book_held result) }
+
+        // so the lent list is left with the book's last rows
+        ensures same_list { result.holds.ghost_name ≡ holds.entry.ghost_name }
     {
         holds.fill(Hold::FREE);
         AccountBook { accounts, holds }
@@ -167,7 +171,7 @@ impl<'a, 'h> AccountBook<'a, 'h> {
     pub fn held(&self, pair: Pair) -> Amount
         ensures { result ≡ book_held self.now pair.card pair.reference }
     {
-        self.amount_held(pair)
+        self.amount_held(pair, self.place(pair))
     }
 
     pub fn holds(&self) -> &[Hold]
@@ -177,32 +181,47 @@ impl<'a, 'h> AccountBook<'a, 'h> {
     }
 }
 
-impl Keeper for AccountBook<'_, '_> {
+impl Keeper for AccountBook<'_> {
     ghost held = { book_held };
 
     ghost assent = { book_assent };
 
+    ghost served = { BookServes };
+
     ghost written = { BookWritten };
 
-    fn amount_held(&self, pair: Pair) -> Amount {
-        find(self.holds, &HoldKey::Of(pair)).map_or(0, |hold| hold.amount)
+    #[tactic(auto, using(crate::proofs::Book::placed_at))]
+    fn place(&self, pair: Pair) -> Option<usize> {
+        place_for(self.holds, pair)
     }
 
-    fn assents(&self, pair: Pair, amount: Amount) -> bool {
-        find(self.accounts, &pair.card).is_some_and(|account| {
-            left_of(account.balance, self.holds, pair, amount).is_some()
-                && place_for(self.holds, pair).is_some()
-        })
+    // where the pair has no row the place is a free one's, of amount 0
+    fn amount_held(&self, pair: Pair, found: Option<usize>) -> Amount {
+        match found {
+            Some(place) => self.holds[place].amount,
+            None => 0,
+        }
+    }
+
+    #[tactic(auto, using(rows::proofs::First::stands_from_cases))]
+    fn assents(&self, pair: Pair, found: Option<usize>, amount: Amount) -> bool {
+        match search(self.accounts, &pair.card) {
+            Some(place) => {
+                left_of(self.accounts[place].balance, self.holds, pair, amount).is_some()
+                    && found.is_some()
+            }
+            None => false,
+        }
     }
 
     #[tactic(auto, using(crate::proofs::Book::written_holds))]
-    fn write(&mut self, pair: Pair, amount: Amount) {
-        write(self.holds, pair, amount);
+    fn write(&mut self, pair: Pair, found: Option<usize>, amount: Amount) {
+        write(self.holds, pair, found, amount);
     }
 }
 
 // `Host` is another crate's trait, so it can't be given to every `Keeper` at once.
-impl Host for AccountBook<'_, '_> {
+impl Host for AccountBook<'_> {
     ghost held = { book_held };
 
     ghost assent = { book_assent };
@@ -211,18 +230,15 @@ impl Host for AccountBook<'_, '_> {
 
     ghost read_fate = { λ _. heard_reads };
 
-    fn put(&mut self, pair: Pair, amount: Amount) -> PutReply
-        ensures means { PutMeans heard_puts (book_held self.old) (book_assent self.old) (book_held self.new) pair.card pair.reference amount result }
-        ensures rows { self.new.holds.now ≡ holds_after self.old.accounts.now self.old.holds.now pair.card pair.reference amount }
-        ensures accounts { self.new.accounts ≡ self.old.accounts }
-    {
+    ghost put_step = { BookPutStep };
+
+    ghost read_step = { HeardReadStep book_held };
+
+    fn put(&mut self, pair: Pair, amount: Amount) -> PutReply {
         keeper::put(self, pair, amount)
     }
 
-    fn read(&mut self, pair: Pair) -> ReadReply
-        ensures means { ReadMeans heard_reads (book_held self.old) (book_held self.new) pair.card pair.reference result }
-        ensures same { self.new ≡ self.old }
-    {
+    fn read(&mut self, pair: Pair) -> ReadReply {
         keeper::read(self, pair)
     }
 }

@@ -1,13 +1,13 @@
 //! A host over prepaid vouchers, each good for one reference at a time.
 ghost use Rattle.std.specs.Prelude.{◌≡◌, map, Some};
-ghost use Rattle.host.specs.Meaning.{PutMeans, ReadMeans};
 ghost use Rattle.host.specs.Parts.{HoldsNothing, heard_puts, heard_reads};
-ghost use Rattle.hosts.specs.Drawer.{changed, held_under, is_voucher, raisable, unused, vouchers_after, vouchers_written};
-ghost use Rattle.hosts.specs.DrawerHost.{DrawerWritten, drawer_assent, drawer_held};
+ghost use Rattle.hosts.specs.Drawer.{FoundAt, changed, held_under, is_voucher, raisable, unused, vouchers_written};
+ghost use Rattle.hosts.specs.DrawerHost.{DrawerPutStep, DrawerWritten, DrawerServes, drawer_assent, drawer_held};
+ghost use Rattle.hosts.specs.Keeper.{HeardReadStep};
 
 use crate::keeper::{self, Keeper};
 use host::{Amount, Card, Host, Pair, PutReply, ReadReply, Reference};
-use rows::{Keyed, find, search};
+use rows::{Keyed, search};
 
 // The rows are lent: one that holds nothing shows it by held 0, and has no Option in it.
 #[derive(Clone, Copy, PartialEq, Eq, Debug)]
@@ -78,10 +78,11 @@ impl Keyed for Voucher {
 }
 
 /// Updates the first voucher with the card where it lies.
-fn change_voucher(vouchers: &mut [Voucher], pair: Pair, amount: Amount)
+fn change_voucher(vouchers: &mut [Voucher], pair: Pair, found: Option<usize>, amount: Amount)
+    requires { FoundAt vouchers.old pair.card found }
     ensures { vouchers.new ≡ vouchers_written vouchers.old pair.card pair.reference amount }
 {
-    if let Some(place) = search(vouchers, &pair.card) {
+    if let Some(place) = found {
         vouchers[place] = vouchers[place].changed(pair.reference, amount);
     }
 }
@@ -108,6 +109,9 @@ impl<'v> VoucherDrawer<'v> {
     pub fn new(vouchers: &'v mut [Voucher]) -> VoucherDrawer<'v>
         ensures rows { result.vouchers.now ≡ map unused vouchers.old }
         ensures nothing { HoldsNothing (drawer_held result) }
+
+        // so the lent list is left with the drawer's last rows
+        ensures same_list { result.vouchers.ghost_name ≡ vouchers.entry.ghost_name }
     {
         clear(vouchers);
         VoucherDrawer { vouchers }
@@ -118,7 +122,7 @@ impl<'v> VoucherDrawer<'v> {
     pub fn held(&self, pair: Pair) -> Amount
         ensures { result ≡ drawer_held self.now pair.card pair.reference }
     {
-        self.amount_held(pair)
+        self.amount_held(pair, self.place(pair))
     }
 
     pub fn vouchers(&self) -> &[Voucher]
@@ -133,20 +137,38 @@ impl Keeper for VoucherDrawer<'_> {
 
     ghost assent = { drawer_assent };
 
+    ghost served = { DrawerServes };
+
     ghost written = { DrawerWritten };
 
-    fn amount_held(&self, pair: Pair) -> Amount {
-        find(self.vouchers, &pair.card).map_or(0, |voucher| voucher.held_under(pair.reference))
+    #[tactic(auto, using(crate::proofs::Drawer::found_at))]
+    fn place(&self, pair: Pair) -> Option<usize> {
+        search(self.vouchers, &pair.card)
     }
 
-    fn assents(&self, pair: Pair, amount: Amount) -> bool {
-        let found = find(self.vouchers, &pair.card);
-        found.is_some_and(|voucher| voucher.raisable(pair.reference, amount))
+    fn amount_held(&self, pair: Pair, found: Option<usize>) -> Amount {
+        match found {
+            Some(place) => {
+                let voucher = self.vouchers[place];
+                voucher.held_under(pair.reference)
+            }
+            None => 0,
+        }
+    }
+
+    fn assents(&self, pair: Pair, found: Option<usize>, amount: Amount) -> bool {
+        match found {
+            Some(place) => {
+                let voucher = self.vouchers[place];
+                voucher.raisable(pair.reference, amount)
+            }
+            None => false,
+        }
     }
 
     #[tactic(auto, using(crate::proofs::Drawer::written_holds))]
-    fn write(&mut self, pair: Pair, amount: Amount) {
-        change_voucher(self.vouchers, pair, amount);
+    fn write(&mut self, pair: Pair, found: Option<usize>, amount: Amount) {
+        change_voucher(self.vouchers, pair, found, amount);
     }
 }
 
@@ -160,17 +182,15 @@ impl Host for VoucherDrawer<'_> {
 
     ghost read_fate = { λ _. heard_reads };
 
-    fn put(&mut self, pair: Pair, amount: Amount) -> PutReply
-        ensures means { PutMeans heard_puts (drawer_held self.old) (drawer_assent self.old) (drawer_held self.new) pair.card pair.reference amount result }
-        ensures rows { self.new.vouchers.now ≡ vouchers_after self.old.vouchers.now pair.card pair.reference amount }
-    {
+    ghost put_step = { DrawerPutStep };
+
+    ghost read_step = { HeardReadStep drawer_held };
+
+    fn put(&mut self, pair: Pair, amount: Amount) -> PutReply {
         keeper::put(self, pair, amount)
     }
 
-    fn read(&mut self, pair: Pair) -> ReadReply
-        ensures means { ReadMeans heard_reads (drawer_held self.old) (drawer_held self.new) pair.card pair.reference result }
-        ensures same { self.new ≡ self.old }
-    {
+    fn read(&mut self, pair: Pair) -> ReadReply {
         keeper::read(self, pair)
     }
 }

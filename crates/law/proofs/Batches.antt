@@ -1,8 +1,8 @@
 -- The books show the batches of the history, open or closed, from message to message.
-use Rattle.std.proofs.Common.{◌≡◌, ℕ, Bool, true, false, cond, not, ◌&&◌, ◌||◌, eqb, ◌⊎◌, List, [], ◌∷◌, ◌++◌, map, get_or, pos, ◌+ℤ◌, ◌-ℤ◌, is_some, Some, None, Ok, Err, Option, unwrap_or, sym, refl, ap, ◌∙◌, subst, inl, inr, arith}
+use Rattle.std.proofs.Common.{◌≡◌, ℕ, Bool, true, false, cond, not, ◌&&◌, ◌||◌, eqb, ◌⊎◌, List, [], ◌∷◌, ◌++◌, map, get_or, pos, ◌+ℤ◌, ◌-ℤ◌, is_some, Some, None, Ok, Err, Option, unwrap_or, sym, refl, ap, ◌∙◌, subst, inl, inr}
 use mathlib.Core.List.{map-append}
 use Rattle.std.specs.Option.{option_map}
-use Rattle.std.proofs.lemmas.Bool.{and_from, and_left, and_parts, and_right, cond-false, cond-true, eq-eqb, eqb-true, ne_eqb, or_cases, or_left, or_parts}
+use Rattle.std.proofs.lemmas.Bool.{and_from, and_left, and_parts, and_right, cond-false, cond-true, eq-eqb, eqb-true, or_cases, or_left, or_parts}
 use Rattle.fields.specs.Kind.{is_kind}
 use Rattle.host.specs.Parts.{Holdings}
 use Rattle.rows.specs.First.{first_with, row_with, update_first}
@@ -13,12 +13,13 @@ use Rattle.rules.specs.Outcome.{outcome_code}
 use Rattle.rules.specs.Rules.{Call, Reply, answered, answer_of, books_after, books_by, call_of, moves, new_batch, on_batch, outcome_of, put_answered, refused_with, remembered, shut, uncalled, with_total}
 use Rattle.rules.specs.declared.batch.Batch.{Batch}
 use Rattle.rules.specs.declared.outcome.Outcome.{Outcome}
-use Rattle.rules.specs.declared.outcome.Outcome.TheVariants.{MemoryFull, RequestNumberUsed}
+use Rattle.rules.specs.declared.outcome.Outcome.TheVariants.{Success}
 use Rattle.rules.specs.declared.outcome.Performed.{Performed}
 use Rattle.rules.specs.declared.way.Way.TheVariants.{Again, Retry, Stopped, Through}
+use Rattle.rules.proofs.Outcomes.{check_apart, is_check}
 use Rattle.rules.proofs.Answering.{left_at, remembered_part, seated_part}
 use Rattle.rules.proofs.Passed.{batch_known, batch_is_new}
-use Rattle.rules.proofs.Ways.{Went, again, book_refusal, by_kind, by_way, call_at, forgotten, recalled, retried, stopped, through, used, went}
+use Rattle.rules.proofs.Ways.{Went, again, book_refusal, by_kind, by_way, call_at, recalled, retried, stopped, through, went}
 use Rattle.law.specs.History.{BatchName, Entry, entry, fields_of, numbered, opened, said, succeeds}
 use Rattle.law.specs.Reached.{Replies, full, short}
 use Rattle.law.specs.Stands.{batch_name}
@@ -143,9 +144,9 @@ module _ (h : List Entry) (l : Ledger) (bytes : List ℕ) (m : Fields) (are : By
   EnteredBy a = Entered m (succeeds (entry bytes (full a)) h) l.batches
 
   -- a refusal
-  refused : (o : Outcome) → eqb (outcome_code o) 0 ≡ false → EnteredBy (refused_with m o) (remembered m (refused_with m o) l).batches
-  refused o fails =
-      entered_left m _ (and_left _ _ (and_left _ _ fails)) l.batches (remembered m (refused_with m o) l).batches (remembered_part (λ x. x.batches) m (refused_with m o) l refl)
+  refused : (o : Outcome) → is_check o ≡ true → EnteredBy (refused_with m o) (remembered m (refused_with m o) l).batches
+  refused o check =
+      entered_left m _ (and_left _ _ (and_left _ _ (check_apart o Success check refl))) l.batches (remembered m (refused_with m o) l).batches (remembered_part (λ x. x.batches) m (refused_with m o) l refl)
 
   -- a put that is made again
   made_again : (eqb m.kind 1 || eqb m.kind 2) ≡ true → (a : Performed) → EnteredBy a l.batches
@@ -221,7 +222,5 @@ batched_step h l bytes m reply held held' are is kept r b called =
     at (retried a w known silent) =
         let puts = kept.silent_kind m (record { answer = a; is = known; silent = silent }) in
         by_way l m reply Goes Retry w (λ called. made_again h l bytes m are is r puts (put_answered m reply))
-    at (used w other otherwise) = by_way l m reply Goes (Stopped RequestNumberUsed) w (λ called. refused h l bytes m are is r RequestNumberUsed refl)
-    at (forgotten w other new full-memory) = by_way l m reply Goes (Stopped MemoryFull) w (λ called. refused h l bytes m are is r MemoryFull refl)
-    at (stopped o w new refuses low high free) = by_way l m reply Goes (Stopped o) w (λ called. refused h l bytes m are is r o (ne_eqb _ _ (λ zero. omega arith)))
+    at (stopped o w check why) = by_way l m reply Goes (Stopped o) w (λ called. refused h l bytes m are is r o check)
     at (through w new none free) = by_way l m reply Goes Through w (batched_through h l bytes m are is r none new reply held held' (kind_of bytes m is))

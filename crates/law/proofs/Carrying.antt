@@ -28,6 +28,10 @@ pub spelling_bytes : (m : Fields) → ((k : ℕ) → k < length (bytes_for m) �
 unfolding spelling
 spelling_bytes m each = spelled_bytes m each
 
+pub spelled_so : (m : Fields) (bytes : List ℕ) → bytes_for m ≡ bytes → spelling m ≡ bytes
+unfolding spelling
+spelled_so m bytes is = is
+
 pub own_spelling : (bytes : List ℕ) (m : Fields) → Bytes bytes → opened bytes ≡ Ok m → spelling m ≡ bytes
 unfolding opened spelling
 own_spelling bytes m are is = own_bytes bytes are m is

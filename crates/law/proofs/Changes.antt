@@ -10,7 +10,8 @@ use Rattle.rules.specs.declared.outcome.Performed.{Performed}
 use Rattle.rules.specs.declared.purchase.Purchase.{Purchase}
 use Rattle.rules.proofs.Ways.{recalled}
 use Rattle.law.specs.Stands.{booked_of}
-use Rattle.law.proofs.Base.{fields_equal, fields_refl, same_from, sames_equal, unless}
+use Rattle.rules.proofs.Sames.{fields_equal, fields_refl, same_from, sames_equal}
+use Rattle.law.proofs.Base.{unless}
 use Rattle.law.proofs.Invariants.{Kept, Silent}
 use Rattle.law.proofs.Rows.{booked_same}
 

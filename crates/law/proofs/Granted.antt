@@ -1,6 +1,6 @@
 -- The host refuses no authorisation reversal, since it asks no more than is held.
 use Rattle.std.proofs.Common.{◌≡◌, ℕ, ◌≤◌, Bool, true, false, cond, eqb, List, [], ◌∷◌, Some, Ok, Err, sym, refl, ap, ◌∙◌, subst, ⊎_elim, arith}
-use Rattle.std.proofs.lemmas.Bool.{true≢false}
+use Rattle.std.proofs.lemmas.Bool.{eqb-false, true≢false}
 use Rattle.host.specs.Meaning.{PutMeans}
 use Rattle.host.specs.Parts.{Assents, Holdings, PutFates}
 use Rattle.host.specs.declared.PutReply.{PutReply}
@@ -12,15 +12,17 @@ use Rattle.wire.specs.declared.message.Fields.{Fields}
 use Rattle.rules.specs.Ledger.{Ledger}
 use Rattle.rules.specs.Outcome.{outcome_code}
 use Rattle.rules.specs.Rules.{Reply, answer_by, answer_of, call_by, call_of, card_of, on_put, outcome_of, put, put_of, reference_of, way}
-use Rattle.rules.specs.declared.outcome.Outcome.TheVariants.{MemoryFull, RequestNumberUsed}
+use Rattle.rules.specs.declared.outcome.Outcome.TheVariants.{HostRefused}
 use Rattle.rules.specs.declared.way.Way.{Way}
 use Rattle.rules.specs.declared.way.Way.TheVariants.{Again, Retry, Stopped, Through}
+use Rattle.rules.proofs.Outcomes.{check_apart}
 use Rattle.rules.proofs.Passed.{lowers}
-use Rattle.rules.proofs.Ways.{Went, again, by_way, call_at, forgotten, retried, stopped, through, used, went}
+use Rattle.rules.proofs.Ways.{Went, again, by_way, call_at, retried, stopped, through, went}
 use Rattle.law.specs.History.{Entry, Given, ReversalsGranted, entry, fields_of, last_given, message_from, opened}
 use Rattle.law.specs.Reached.{Replies, full, short}
 use Rattle.law.specs.Stands.{booked_of}
-use Rattle.law.proofs.Base.{kind_of, sames_equal}
+use Rattle.rules.proofs.Sames.{sames_equal}
+use Rattle.law.proofs.Base.{kind_of}
 use Rattle.law.proofs.Holds.{Ready, ready_again, ready_lowered}
 use Rattle.law.proofs.Invariants.{Holding, Kept, Recalls, Silent as Unanswered}
 
@@ -71,9 +73,7 @@ granted_step h l bytes m reply held held' are is kept holding r g called =
     at says two (retried a w known silent) =
         let s : Unanswered l m = record { answer = a; is = known; silent = silent } in
         along Retry w (put_granted l m reply held held' (card_of l m) (reference_of l m) (ready_again l m held kept holding s) (kept.silent_below m s two))
-    at says two (used w other taken) = along (Stopped RequestNumberUsed) w (λ called refused. omega arith)
-    at says two (forgotten w other new many) = along (Stopped MemoryFull) w (λ called refused. omega arith)
-    at says two (stopped o w new refuses low high free) = along (Stopped o) w (λ called refused. omega arith)
+    at says two (stopped o w check why) = along (Stopped o) w (λ called. eqb-false _ _ (check_apart o HostRefused check refl))
     at says two (through w new none free) =
         along Through w (λ called. put_granted l m reply held held' (card_of l m) (reference_of l m) (ready_lowered l m held two none holding) (omega (arith, lowers l m none two))
         (subst (λ k. Replies (call_at l m k) reply held held') two called))

@@ -14,8 +14,6 @@ use Rattle.wire.specs.declared.message.Fields.{Fields}
 use Rattle.rules.specs.Ledger.{Ledger, no_ledger, no_purchase, of_xid, purchase_at, purchase_of, purchase_row}
 use Rattle.rules.specs.Rules.{Reply, answered, books_after, books_by, call_by, call_of, card_of, moved, moves, new_purchase, on_purchase, on_put, put, put_of, reference_of, refused_with, remembered, seated, settled, way, with_captured, with_credited}
 use Rattle.wire.specs.Bytes.{same_bytes}
-use Rattle.rules.specs.declared.outcome.Outcome.{Outcome}
-use Rattle.rules.specs.declared.outcome.Outcome.TheVariants.{MemoryFull, RequestNumberUsed}
 use Rattle.rules.specs.declared.outcome.Performed.{Performed}
 use Rattle.rules.specs.declared.purchase.Purchase.{Purchase}
 use Rattle.rules.specs.declared.way.Way.{Way}
@@ -23,10 +21,10 @@ use Rattle.rules.specs.declared.way.Way.TheVariants.{Again, Retry, Stopped, Thro
 use Rattle.rules.proofs.Answering.{remembered_part, seat}
 use Rattle.rules.proofs.Passed.{known, no_doubt, nothing_there, card_the_same}
 use Rattle.rules.proofs.Settles.{settled_card, settled_xid}
-use Rattle.rules.proofs.Ways.{Went, again, book_refusal, by_kind, by_way, call_at, forgotten, retried, stopped, through, used, went}
+use Rattle.rules.proofs.Ways.{Went, again, book_refusal, by_kind, by_way, call_at, retried, stopped, through, went}
 use Rattle.law.specs.Reached.{Replies}
 use Rattle.law.specs.Stands.{booked_of}
-use Rattle.law.proofs.Base.{sames_equal, sames_refl}
+use Rattle.rules.proofs.Sames.{sames_equal, sames_refl}
 use Rattle.law.proofs.Invariants.{Holding, IsRow, Kept, Silent as Unanswered}
 use Rattle.law.proofs.Rows.{booked_elsewhere, booked_here, booked_same, doubt_known, mapped_some, place_known, place_new, place_stays, placed, row_known, row_new, row_push_other, some_is, some_mapped, told_stays}
 
@@ -350,17 +348,11 @@ holding_step l m reply held held' kind kept h = at (went l m kind)
         → Replies (call_of l m) reply held held' → Holding (books_after l m reply) held'
     along = by_way l m reply (λ call a books. Replies call reply held held' → Holding books held')
 
-    -- a check that stops it makes no call, and leaves the purchases
-    refused : (o : Outcome) → way l m ≡ Stopped o → Replies (call_of l m) reply held held' → Holding (books_after l m reply) held'
-    refused o w = along (Stopped o) w (λ called. remembered_holding m (refused_with m o) l held' (holding_same l held held' called.1 h))
-
     at : Went l m → Replies (call_of l m) reply held held' → Holding (books_after l m reply) held'
     at (again a w is loud) = along (Again a) w (λ called. holding_same l held held' called.1 h)
     at (retried a w is silent) =
         along Retry w (λ called. holding_stays (on_purchase m (settled reply m.amount) l) held' held' (λ card reference. refl)
         (put_replied l m reply held held' (card_of l m) (reference_of l m) (ready_again l m held kept h (record { answer = a; is = is; silent = silent })) called) _ refl)
-    at (used w other taken) = refused RequestNumberUsed w
-    at (forgotten w other new many) = refused MemoryFull w
-    at (stopped o w new refuses low high free) = refused o w
+    at (stopped o w check why) = along (Stopped o) w (λ called. remembered_holding m (refused_with m o) l held' (holding_same l held held' called.1 h))
     at (through w new none free) =
         along Through w (λ called. remembered_holding m (answered l m reply) (moved l m reply) held' (through_holding l m reply held held' h none kind called))

@@ -1,6 +1,6 @@
 -- The amounts and the doubts of the books, from message to message.
 use Rattle.std.proofs.Common.{◌≡◌, ℕ, ◌+◌, ◌-◌, ◌<◌, ◌≤◌, true, false, cond, not, ◌||◌, eqb, List, [], ◌∷◌, length, get_or, is_some, Some, None, unwrap_or, sym, refl, ap, ◌∙◌, subst, arith}
-use Rattle.std.proofs.lemmas.Bool.{and_parts, cond_both, cond-false, ne_eqb, not-true, true≢false}
+use Rattle.std.proofs.lemmas.Bool.{and_parts, cond_both, cond-false, not-true, true≢false}
 use Rattle.fields.specs.Kind.{is_kind}
 use Rattle.host.specs.Parts.{Holdings}
 use Rattle.host.specs.declared.PutReply.{PutReply}
@@ -8,22 +8,23 @@ use Rattle.wire.specs.declared.message.Fields.{Fields}
 use Rattle.rules.specs.Checks.{among}
 use Rattle.rules.specs.Ledger.{Ledger, no_ledger, no_purchase, of_xid, purchase_row, remembered_of}
 use Rattle.rules.specs.Outcome.{outcome_code}
-use Rattle.rules.specs.Rules.{Reply, answered, books_after, books_by, call_by, call_of, is_silent, moved, moves, new_purchase, noted, on_purchase, on_put, outcome_of, put_answered, put_of, refused_with, remembered, remembers, seated, settled, uncalled, way, with_captured, with_credited}
+use Rattle.rules.specs.Rules.{Reply, answered, books_after, books_by, call_by, call_of, is_forgotten, is_silent, moved, moves, new_purchase, noted, on_purchase, on_put, outcome_of, put_answered, put_of, refused_with, remembered, remembers, seated, settled, uncalled, way, with_captured, with_credited}
 use Rattle.wire.specs.Bytes.{same_bytes}
 use Rattle.rules.specs.Same.{same_fields}
 use Rattle.rules.specs.declared.outcome.Outcome.{Outcome}
-use Rattle.rules.specs.declared.outcome.Outcome.TheVariants.{MemoryFull, RequestNumberUsed}
+use Rattle.rules.specs.declared.outcome.Outcome.TheVariants.{HostSilent}
 use Rattle.rules.specs.declared.outcome.Performed.{Performed}
 use Rattle.rules.specs.declared.purchase.Purchase.{Purchase}
 use Rattle.rules.specs.declared.way.Way.{Way}
 use Rattle.rules.specs.declared.way.Way.TheVariants.{Again, Retry, Stopped, Through}
+use Rattle.rules.proofs.Outcomes.{check_apart}
 use Rattle.rules.proofs.Answering.{forgets, forgets_inquiry, keeps_answer, left_at, moved_answers, moved_at, remembered_answers, replied_kept, seat}
 use Rattle.rules.proofs.Passed.{captures_within, credits_within, known, lowers, no_doubt, nothing_authorised, nothing_captured, nothing_credited, card_the_same}
 use Rattle.rules.proofs.Settles.{settled_captured, settled_card, settled_credited, settled_doubt, settled_xid, silent_authorised}
-use Rattle.rules.proofs.Ways.{Went, again, book_refusal, by_kind, by_way, call_at, forgotten, recalled, retried, stopped, through, used, went}
+use Rattle.rules.proofs.Ways.{Went, again, book_refusal, by_kind, by_way, call_at, recalled, retried, stopped, through, went, Refused, full_memory, other_check, used_number}
 use Rattle.law.specs.Reached.{Replies}
 use Rattle.law.specs.Stands.{booked_of}
-use Rattle.law.proofs.Base.{sames_refl}
+use Rattle.rules.proofs.Sames.{sames_refl}
 use Rattle.law.proofs.Changes.{Change, kept_changed, kept_noted}
 use Rattle.law.proofs.Invariants.{Kept, Silent}
 use Rattle.law.proofs.Recall.{recalled_noted, recalled_replaced}
@@ -140,7 +141,7 @@ kept_refused l m o kept absent heard new =
     (λ e. kept_noted l l' m (refused_with m o) (λ n. recalled_noted l l' m n (refused_with m o) refl (new e)) kept refl absent heard) (λ e. kept)
 
 -- a refusal that is not remembered
-kept_forgotten : (l : Ledger) (m : Fields) (o : Outcome) → Kept l → among (outcome_code o) (8 ∷ 9 ∷ []) ≡ true → Kept (remembered m (refused_with m o) l)
+kept_forgotten : (l : Ledger) (m : Fields) (o : Outcome) → Kept l → is_forgotten o ≡ true → Kept (remembered m (refused_with m o) l)
 kept_forgotten l m o kept quiet = subst Kept (sym (cond-false _ (noted m (refused_with m o) l) l (forgets m o quiet))) kept
 
 -- a message past all checks
@@ -246,9 +247,11 @@ kept_step l m reply held held' kind kept = at (went l m kind)
     at (again a w is heard) = along (Again a) w (λ called. kept)
     at (retried a w is silent) =
         along Retry w (λ called. subst (λ x. Kept (books_by Retry l m x)) (sym called.3) (kept_retried l m called.0 a kept is silent))
-    at (used w loud other) = along (Stopped RequestNumberUsed) w (λ called. kept_forgotten l m RequestNumberUsed kept refl)
-    at (forgotten w loud new full) = along (Stopped MemoryFull) w (λ called. kept_forgotten l m MemoryFull kept refl)
-    at (stopped o w absent refused low high free) =
-        along (Stopped o) w (λ called. kept_refused l m o kept absent (ne_eqb (outcome_code o) 25 (λ e. omega arith))
-        (λ e. (free (not-true _ (and_parts (not (eqb m.kind 9)) _ e).0)).0))
+    at (stopped o w check why) = along (Stopped o) w (λ called. refused why)
+      where
+        refused : Refused l m o → Kept (remembered m (refused_with m o) l)
+        refused (used_number is otherwise) = kept_forgotten l m o kept (ap is_forgotten is)
+        refused (full_memory is new most) = kept_forgotten l m o kept (ap is_forgotten is)
+        refused (other_check loud absent free) =
+            kept_refused l m o kept absent (check_apart o HostSilent check refl) (λ e. (free (not-true _ (and_parts (not (eqb m.kind 9)) _ e).0)).0)
     at (through w absent none free) = along Through w (kept_through l m kind kept absent none free reply held held')

@@ -4,10 +4,10 @@ use Rattle.std.proofs.lemmas.Bool.{both_ways, cond-false, ne_eqb, true≢false}
 use Rattle.fields.specs.Kind.{is_kind}
 use Rattle.wire.specs.RoundTrip.{Bytes}
 use Rattle.wire.specs.declared.message.Fields.{Fields}
-use Rattle.rules.specs.Checks.{among, used_otherwise}
+use Rattle.rules.specs.Checks.{used_otherwise}
 use Rattle.rules.specs.Ledger.{Ledger, no_ledger, remembered_of}
 use Rattle.rules.specs.Outcome.{outcome_code}
-use Rattle.rules.specs.Rules.{Call, Reply, answer_by, answer_of, books_after, books_by, call_by, choose, noted, refused_with, repeat_in, way}
+use Rattle.rules.specs.Rules.{Call, Reply, answer_by, answer_of, books_after, books_by, call_by, choose, is_forgotten, noted, refused_with, repeat_in, way}
 use Rattle.wire.specs.Bytes.{same_bytes}
 use Rattle.rules.specs.Same.{same_fields}
 use Rattle.rules.specs.declared.outcome.Outcome.{Outcome}
@@ -21,7 +21,8 @@ use Rattle.rules.proofs.Ways.{book_refusal, full_refuses, recalled, way_by}
 use Rattle.law.specs.History.{Entry, Given, entry, fields_of, last_given, message_from, opened, succeeded_before}
 use Rattle.law.specs.Reached.{full, short}
 use Rattle.law.specs.Stands.{Repeats, RepeatsOf}
-use Rattle.law.proofs.Base.{fields_equal, fields_refl, kind_of, one_spelling, same_from, sames_equal, unless}
+use Rattle.rules.proofs.Sames.{fields_equal, fields_refl, same_from, sames_equal}
+use Rattle.law.proofs.Base.{kind_of, one_spelling, unless}
 use Rattle.law.proofs.Invariants.{Known, Recalls, is_done, known, known_used, known_full}
 use Rattle.law.proofs.Noting.{After, Here, after_step}
 
@@ -170,7 +171,7 @@ module _ (l : Ledger) (m : Fields) (kind : is_kind m.kind ≡ true) (given : Giv
   }
 
   -- or by the same refusal, which is not remembered
-  repeats_refused : (o : Outcome) → among (outcome_code o) (8 ∷ 9 ∷ []) ≡ true → way l m ≡ Stopped o → given ≡ full (refused_with m o) → Repeats m given l
+  repeats_refused : (o : Outcome) → is_forgotten o ≡ true → way l m ≡ Stopped o → given ≡ full (refused_with m o) → Repeats m given l
   repeats_refused o quiet is gives = record {
     makes_no_call = calls is _ _;
     same_answer = λ reply. ap (λ w. full (answer_by w l m reply)) is ∙ sym gives;

@@ -1,25 +1,26 @@
 -- What a message and its answer leave in the memory.
-use Rattle.std.proofs.Common.{◌≡◌, ◌<◌, ◌≤◌, Bool, true, false, cond, not, ◌||◌, eqb, [], ◌∷◌, length, is_some, Some, None, Option, sym, refl, ap, ◌∙◌, subst, arith}
+use Rattle.std.proofs.Common.{◌≡◌, ◌<◌, ◌≤◌, Bool, true, false, cond, not, ◌||◌, eqb, length, is_some, Some, None, Option, sym, refl, ap, ◌∙◌, subst, arith}
 use Rattle.std.specs.Option.{option_map}
-use Rattle.std.proofs.lemmas.Bool.{both_ways, cond-true, cond-false, eqb-true, not-true, ne_eqb, or_from}
+use Rattle.std.proofs.lemmas.Bool.{both_ways, cond-true, cond-false, eqb-true, not-true}
 use Rattle.fields.specs.Kind.{is_kind}
 use Rattle.wire.specs.declared.message.Fields.{Fields}
-use Rattle.rules.specs.Checks.{among, used_otherwise}
+use Rattle.rules.specs.Checks.{used_otherwise}
 use Rattle.rules.specs.Ledger.{Ledger, of_request, remembered_of}
 use Rattle.rules.specs.Outcome.{outcome_code}
-use Rattle.rules.specs.Rules.{Reply, answer_by, answer_of, answered, books_after, books_by, is_silent, moved, noted, put_answered, refused_with, remembered, repeat_in, replaced, way}
+use Rattle.rules.specs.Rules.{Reply, answer_by, answer_of, answered, books_after, books_by, is_forgotten, is_silent, moved, noted, put_answered, refused_with, remembered, repeat_in, replaced, way}
 use Rattle.rules.specs.Same.{same_fields}
 use Rattle.rules.specs.declared.outcome.Outcome.{Outcome}
-use Rattle.rules.specs.declared.outcome.Outcome.TheVariants.{MemoryFull, RequestNumberUsed}
+use Rattle.rules.specs.declared.outcome.Outcome.TheVariants.{Success}
 use Rattle.rules.specs.declared.outcome.Performed.{Performed}
 use Rattle.rules.specs.declared.remembered.Remembered.{Remembered}
 use Rattle.rules.specs.declared.way.Way.{Way}
 use Rattle.rules.specs.declared.way.Way.TheVariants.{Again, Retry, Stopped, Through}
+use Rattle.rules.proofs.Outcomes.{check_apart, is_check}
 use Rattle.rules.proofs.Answering.{forgets, forgets_inquiry, keeps_answer, moved_answers, remembered_answers, replied_kept}
 use Rattle.rules.proofs.Passed.{nothing_there}
-use Rattle.rules.proofs.Ways.{Went, went, again, retried, used, forgotten, stopped, through, by_way, recalled}
+use Rattle.rules.proofs.Ways.{Went, went, again, retried, stopped, through, by_way, recalled, Refused, full_memory, other_check, used_number}
 use Rattle.law.specs.Reached.{full}
-use Rattle.law.proofs.Base.{fields_refl}
+use Rattle.rules.proofs.Sames.{fields_refl}
 use Rattle.law.proofs.Invariants.{Known, is_done, known, known_used, known_full}
 use Rattle.law.proofs.Recall.{recalled_noted, recalled_replaced, row_of}
 use Rattle.law.proofs.Rows.{length_update, part_stays, row_push, some_mapped}
@@ -127,7 +128,7 @@ module _ (l l' : Ledger) (m : Fields) (x : Performed) where
 
 module _ (l : Ledger) (m : Fields) where
   -- an answer that is remembered unless it is an inquiry's
-  after_remembered : (x : Performed) (moved_books : Ledger) → moved_books.answers ≡ l.answers → among (outcome_code x.outcome) (8 ∷ 9 ∷ []) ≡ false
+  after_remembered : (x : Performed) (moved_books : Ledger) → moved_books.answers ≡ l.answers → is_forgotten x.outcome ≡ false
       → (eqb m.kind 9 ≡ false → (remembered_of l m ≡ None) × (length l.answers < 256)) → After l (remembered m x moved_books) m x
   after_remembered x books same loud free = by_nine (eqb m.kind 9) refl
     where
@@ -137,14 +138,14 @@ module _ (l : Ledger) (m : Fields) where
       by_nine false e = after_noted l _ m x (remembered_answers m x l books (keeps_answer m x.outcome e loud) same) (free e).0 (free e).1
 
   -- a refusal that is not remembered
-  after_forgotten : (o : Outcome) → among (outcome_code o) (8 ∷ 9 ∷ []) ≡ true → eqb (outcome_code o) 0 ≡ false → recalled l m ≡ None → Known l m (full (refused_with m o))
+  after_forgotten : (o : Outcome) → is_forgotten o ≡ true → is_check o ≡ true → recalled l m ≡ None → Known l m (full (refused_with m o))
       → After l (remembered m (refused_with m o) l) m (refused_with m o)
-  after_forgotten o quiet refused none is =
+  after_forgotten o quiet check none is =
       subst (λ l'. After l l' m (refused_with m o)) (sym (cond-false _ (noted m (refused_with m o) l) l (forgets m o quiet)))
       (after_same l l m (refused_with m o) refl (λ other. record {
         is_known = is;
         only = λ a some. cc;
-        done_kept = ap (λ t. t || is_done (recalled l m)) refused;
+        done_kept = ap (λ t. t || is_done (recalled l m)) (check_apart o Success check refl);
       }))
 
   -- a repeat
@@ -169,14 +170,13 @@ after_step l m reply kind = at (went l m kind)
     at : Went l m → After l (books_after l m reply) m (answer_of l m reply)
     at (again a w same loud) = along (Again a) w (after_again l m a same)
     at (retried a w same silent) = along Retry w (after_replaced l _ m (put_answered m reply) refl a same silent)
-    at (used w other otherwise) =
-        along (Stopped RequestNumberUsed) w
-        (after_forgotten l m RequestNumberUsed refl refl (used_not_recalled (remembered_of l m) m otherwise) (known_used otherwise refl))
-    at (forgotten w other new most) =
-        along (Stopped MemoryFull) w (after_forgotten l m MemoryFull refl refl (ap (λ o. repeat_in o m) new) (known_full new most refl))
-    at (stopped o w none refused least most free) =
-        let late : among (outcome_code o) (8 ∷ 9 ∷ []) ≡ false =
-        or_from _ _ (ne_eqb (outcome_code o) 8 (λ e. omega arith)) (or_from _ _ (ne_eqb (outcome_code o) 9 (λ e. omega arith)) refl) in
-        along (Stopped o) w (after_remembered l m (refused_with m o) l refl late free)
+    at (stopped o w check why) = along (Stopped o) w (refused why)
+      where
+        refused : Refused l m o → After l (remembered m (refused_with m o) l) m (refused_with m o)
+        refused (used_number is otherwise) =
+            after_forgotten l m o (ap is_forgotten is) check (used_not_recalled (remembered_of l m) m otherwise) (known_used otherwise (ap (λ x. full (refused_with m x)) is))
+        refused (full_memory is new most) =
+            after_forgotten l m o (ap is_forgotten is) check (ap (λ r. repeat_in r m) new) (known_full new most (ap (λ x. full (refused_with m x)) is))
+        refused (other_check loud none free) = after_remembered l m (refused_with m o) l refl loud free
     at (through w none passed free) =
         along Through w (after_remembered l m (answered l m reply) (moved l m reply) (moved_answers l m reply kind) (replied_kept reply) free)

@@ -11,7 +11,8 @@ use Rattle.rules.specs.Same.{same_fields}
 use Rattle.rules.specs.declared.outcome.Performed.{Performed}
 use Rattle.rules.specs.declared.remembered.Remembered.{Remembered}
 use Rattle.rules.proofs.Ways.{recalled}
-use Rattle.law.proofs.Base.{fields_equal, unless}
+use Rattle.rules.proofs.Sames.{fields_equal}
+use Rattle.law.proofs.Base.{unless}
 use Rattle.law.proofs.Rows.{row_push, row_push_other}
 
 -- what is remembered under a course and request number, by the rows

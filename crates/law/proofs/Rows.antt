@@ -12,7 +12,7 @@ use Rattle.rules.specs.declared.batch.Batch.{Batch}
 use Rattle.rules.specs.declared.purchase.Purchase.{Purchase}
 use Rattle.rules.proofs.Answering.{seat}
 use Rattle.law.specs.Stands.{batch_under, booked_of}
-use Rattle.law.proofs.Base.{sames_equal}
+use Rattle.rules.proofs.Sames.{sames_equal}
 
 -- what is there has a value
 pub some_is : {A : Type 0} (o : Option A) (d : A) → is_some o ≡ true → o ≡ Some (unwrap_or o d)

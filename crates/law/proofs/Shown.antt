@@ -1,10 +1,10 @@
 -- The books show the purchases and amounts of the history, from message to message.
-use Rattle.std.proofs.Common.{◌≡◌, ℕ, ◌+◌, ◌-◌, ◌≤◌, Bool, true, false, not, eqb, List, [], ◌∷◌, map, get_or, is_some, Some, None, Ok, Err, sym, refl, ap, ◌∙◌, subst, arith}
-use Rattle.std.proofs.lemmas.Bool.{and_left, and_right, eqb-true, ne_eqb, or_from}
+use Rattle.std.proofs.Common.{◌≡◌, ℕ, ◌+◌, ◌-◌, Bool, true, false, not, eqb, List, [], ◌∷◌, map, get_or, is_some, Some, None, Ok, Err, sym, refl, ap, ◌∙◌, subst}
+use Rattle.std.proofs.lemmas.Bool.{and_left, and_right, eqb-true, or_from}
 use Rattle.fields.specs.Kind.{is_kind}
 use Rattle.host.specs.Parts.{Holdings}
 use Rattle.host.specs.declared.PutReply.{PutReply}
-use Rattle.host.specs.declared.PutReply.TheVariants.{Done, Refused, Silent}
+use Rattle.host.specs.declared.PutReply.TheVariants.{Done}
 use Rattle.rows.specs.First.{first_with}
 use Rattle.wire.specs.RoundTrip.{Bytes}
 use Rattle.wire.specs.declared.message.Fields.{Fields}
@@ -14,15 +14,16 @@ use Rattle.rules.specs.Outcome.{outcome_code}
 use Rattle.rules.specs.Rules.{Reply, answer_by, answer_of, answered, books_after, books_by, call_by, call_of, is_silent, moves, on_purchase, on_put, outcome_of, put_answered, put_of, refused_with, remembered, seated, settled, uncalled, way, with_captured, with_credited}
 use Rattle.wire.specs.Bytes.{same_bytes}
 use Rattle.rules.specs.declared.outcome.Outcome.{Outcome}
-use Rattle.rules.specs.declared.outcome.Outcome.TheVariants.{MemoryFull, RequestNumberUsed}
+use Rattle.rules.specs.declared.outcome.Outcome.TheVariants.{HostRefused, HostSilent, Success}
 use Rattle.rules.specs.declared.outcome.Performed.{Performed}
 use Rattle.rules.specs.declared.purchase.Purchase.{Purchase}
 use Rattle.rules.specs.declared.way.Way.{Way}
 use Rattle.rules.specs.declared.way.Way.TheVariants.{Again, Retry, Stopped, Through}
+use Rattle.rules.proofs.Outcomes.{check_apart, is_check}
 use Rattle.rules.proofs.Answering.{left_at, remembered_part}
 use Rattle.rules.proofs.Passed.{known, uncredits_within}
 use Rattle.rules.proofs.Settles.{settled_part}
-use Rattle.rules.proofs.Ways.{Went, again, book_refusal, by_kind, by_way, call_at, forgotten, puts_no_inquiry, recalled, retried, stopped, through, used, went}
+use Rattle.rules.proofs.Ways.{Went, again, book_refusal, by_kind, by_way, call_at, puts_no_inquiry, recalled, retried, stopped, through, went}
 use Rattle.law.specs.History.{Entry, entry, fields_of, named, opened, purchases, succeeded_before, succeeds}
 use Rattle.law.specs.Reached.{Replies, full, short}
 use Rattle.law.specs.Stands.{booked_of, name_of}
@@ -69,26 +70,20 @@ settled_bought = settled_part name_of (λ amount doubt p. refl)
 -- an authorisation makes a purchase whatever its put replies
 put_buys : (reply : PutReply) → makes_by 1 (outcome_code (outcome_of (on_put reply))) ≡ true
 put_buys Done = refl
-put_buys Refused = refl
-put_buys Silent = refl
+put_buys _ = refl
 
 -- the books after these bytes and this answer, as the history after them
 abbrev ToldBy : List Entry → Ledger → List ℕ → Fields → Performed → Ledger → Type 0
 ToldBy h l bytes m a l' = Told m (outcome_code a.outcome) (succeeds (entry bytes (full a)) h) l l'
 
 -- a refusal
-told_stopped : (h : List Entry) (l : Ledger) (bytes : List ℕ) (m : Fields) (o : Outcome) → 8 ≤ outcome_code o → outcome_code o ≤ 23
+told_stopped : (h : List Entry) (l : Ledger) (bytes : List ℕ) (m : Fields) (o : Outcome) → is_check o ≡ true
     → ToldBy h l bytes m (refused_with m o) (remembered m (refused_with m o) l)
-told_stopped h l bytes m o low high =
+told_stopped h l bytes m o check =
+    let fails = check_apart o Success check refl in
     told_same m _ _ l l (remembered m (refused_with m o) l) (remembered_part (λ x. x.purchases) m (refused_with m o) l refl)
-    (told_not m (outcome_code o) _ l (and_left _ _ (and_right (eqb m.kind 1) _ (or_from _ _ not_done (or_from _ _ (apart 24 (omega arith)) (apart 25 (omega arith))))))
-    (and_left _ _ not_done))
-  where
-    apart : (n : ℕ) → 24 ≤ n → eqb (outcome_code o) n ≡ false
-    apart n above = ne_eqb (outcome_code o) n (λ e. omega arith)
-
-    not_done : eqb (outcome_code o) 0 ≡ false
-    not_done = ne_eqb (outcome_code o) 0 (λ e. omega arith)
+    (told_not m (outcome_code o) _ l (and_left _ _ (and_right (eqb m.kind 1) _ (or_from _ _ fails (or_from _ _ (check_apart o HostRefused check refl) (check_apart o HostSilent check refl)))))
+    (and_left _ _ fails))
 
 module _ (h : List Entry) (l : Ledger) (bytes : List ℕ) (m : Fields) (are : Bytes bytes) (is : opened bytes ≡ Ok m) (r : Recalls h l) where
   -- a repeat
@@ -195,16 +190,10 @@ shows_step h l bytes m reply held held' are is kept r s = at (went l m (kind_of 
         (subst (λ n. ToldBy h l bytes n (answer_of l m reply) (books_after l m reply)) (sym (ap fields_of is))
         (by_way l m reply (λ call a books. Replies call reply held held' → ToldBy h l bytes m a books) x w told called))
 
-    refused : (o : Outcome) → way l m ≡ Stopped o → 8 ≤ outcome_code o → outcome_code o ≤ 23 → Replies (call_of l m) reply held held'
-        → Shows (entry bytes (full (answer_of l m reply)) ∷ h) (books_after l m reply)
-    refused o w low high = along (Stopped o) w (λ called. told_stopped h l bytes m o low high)
-
     at : Went l m → Replies (call_of l m) reply held held' → Shows (entry bytes (full (answer_of l m reply)) ∷ h) (books_after l m reply)
     at (again a w recall loud) = along (Again a) w (λ called. told_again h l bytes m are is r s a recall)
     at (retried a w recall silent) =
         along Retry w (λ called. subst (λ x. ToldBy h l bytes m (put_answered m x) (books_by Retry l m x)) (sym called.3)
         (told_retried h l bytes m are is r kept a recall silent called.0))
-    at (used w other otherwise) = refused RequestNumberUsed w (omega arith) (omega arith)
-    at (forgotten w other new full-memory) = refused MemoryFull w (omega arith) (omega arith)
-    at (stopped o w new refuses low high room) = refused o w (omega arith) high
+    at (stopped o w check why) = along (Stopped o) w (λ called. told_stopped h l bytes m o check)
     at (through w new none room) = along Through w (told_through h l bytes m are is r none new reply held held' (kind_of bytes m is))

@@ -1,6 +1,6 @@
 -- Each batch total is the sum of its batch, and each close answers it, from message to message.
-use Rattle.std.proofs.Common.{◌≡◌, ℕ, Bool, true, false, cond, ◌&&◌, ◌||◌, eqb, ◌⊎◌, List, [], ◌∷◌, ◌++◌, get_or, ℤ, pos, ◌+ℤ◌, ◌-ℤ◌, is_some, Some, None, Ok, Err, unwrap_or, sym, refl, ap, ◌∙◌, subst, inl, inr, arith, w64, of_z}
-use Rattle.std.proofs.lemmas.Bool.{and_from, and_left, and_parts, and_right, both_ways, cond_both, cond-false, cond-true, eq-eqb, eqb-false, eqb-true, ne_eqb, or_cases}
+use Rattle.std.proofs.Common.{◌≡◌, ℕ, Bool, true, false, cond, ◌&&◌, ◌||◌, eqb, ◌⊎◌, List, [], ◌∷◌, ◌++◌, get_or, ℤ, pos, ◌+ℤ◌, ◌-ℤ◌, is_some, Some, None, Ok, Err, unwrap_or, sym, refl, ap, ◌∙◌, subst, inl, inr, w64, of_z}
+use Rattle.std.proofs.lemmas.Bool.{and_from, and_left, and_parts, and_right, both_ways, cond_both, cond-false, cond-true, eq-eqb, eqb-false, eqb-true, or_cases}
 use Rattle.fields.specs.Kind.{is_kind}
 use Rattle.host.specs.Parts.{Holdings}
 use Rattle.rows.specs.First.{row_with}
@@ -12,13 +12,14 @@ use Rattle.rules.specs.Outcome.{outcome_code}
 use Rattle.rules.specs.Rules.{Reply, answer_by, answer_of, answered, books_after, books_by, call_by, call_of, moved, moves, new_batch, on_batch, outcome_of, put_answered, put_of, refused_amount, refused_with, remembered, shut, uncalled, way, with_total}
 use Rattle.rules.specs.declared.batch.Batch.{Batch}
 use Rattle.rules.specs.declared.outcome.Outcome.{Outcome}
-use Rattle.rules.specs.declared.outcome.Outcome.TheVariants.{MemoryFull, RequestNumberUsed}
+use Rattle.rules.specs.declared.outcome.Outcome.TheVariants.{Success}
 use Rattle.rules.specs.declared.outcome.Performed.{Performed}
 use Rattle.rules.specs.declared.way.Way.{Way}
 use Rattle.rules.specs.declared.way.Way.TheVariants.{Again, Retry, Stopped, Through}
+use Rattle.rules.proofs.Outcomes.{check_apart, is_check}
 use Rattle.rules.proofs.Answering.{answered_at, left_at, moved_at, remembered_part, seated_part}
 use Rattle.rules.proofs.Passed.{batch_known}
-use Rattle.rules.proofs.Ways.{Went, again, book_refusal, by_kind, by_way, call_at, forgotten, recalled, retried, stopped, through, used, went}
+use Rattle.rules.proofs.Ways.{Went, again, book_refusal, by_kind, by_way, call_at, recalled, retried, stopped, through, went}
 use Rattle.law.specs.History.{Entry, batch_sum, captured, entry, fields_of, opened, said, succeeds}
 use Rattle.law.specs.Reached.{Replies, full, short}
 use Rattle.law.proofs.Base.{kind_of}
@@ -133,9 +134,9 @@ module _ (h : List Entry) (l : Ledger) (bytes : List ℕ) (m : Fields) (is : ope
       unmoved h l (entry bytes (full a)) l' s same (sum_stays h (entry bytes (full a)) m (ap fields_of is) k kind nothing) (no_close h (entry bytes (full a)) m (ap fields_of is) k kind other)
 
   -- a refusal
-  refused : (o : Outcome) → eqb (outcome_code o) 0 ≡ false → Sums (entry bytes (full (refused_with m o)) ∷ h) (remembered m (refused_with m o) l)
-  refused o fails =
-      failed h l (entry bytes (full (refused_with m o))) (remembered m (refused_with m o) l) s (remembered_part (λ x. x.batches) m (refused_with m o) l refl) (and_left _ _ fails)
+  refused : (o : Outcome) → is_check o ≡ true → Sums (entry bytes (full (refused_with m o)) ∷ h) (remembered m (refused_with m o) l)
+  refused o check =
+      failed h l (entry bytes (full (refused_with m o))) (remembered m (refused_with m o) l) s (remembered_part (λ x. x.batches) m (refused_with m o) l refl) (and_left _ _ (check_apart o Success check refl))
 
   -- a put that is made again
   made_again : (eqb m.kind 1 || eqb m.kind 2) ≡ true → (a : Performed) (l' : Ledger) → l'.batches ≡ l.batches → Sums (entry bytes (full a) ∷ h) l'
@@ -224,7 +225,5 @@ sums_step h l bytes m reply held held' are is kept r shows s = at (went l m (kin
     at (retried a w known silent) =
         let puts = kept.silent_kind m (record { answer = a; is = known; silent = silent }) in
         along Retry w (λ called. made_again h l bytes m is s puts (put_answered m reply) (books_by Retry l m reply) refl)
-    at (used w other otherwise) = along (Stopped RequestNumberUsed) w (λ called. refused h l bytes m is s RequestNumberUsed refl)
-    at (forgotten w other new full-memory) = along (Stopped MemoryFull) w (λ called. refused h l bytes m is s MemoryFull refl)
-    at (stopped o w new refuses low high free) = along (Stopped o) w (λ called. refused h l bytes m is s o (ne_eqb _ _ (λ zero. omega arith)))
+    at (stopped o w check why) = along (Stopped o) w (λ called. refused h l bytes m is s o check)
     at (through w new none free) = along Through w (sums_through h l bytes m are is r shows s none new reply held held' (kind_of bytes m is))

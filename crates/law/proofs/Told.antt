@@ -16,7 +16,7 @@ use Rattle.rules.specs.declared.purchase.Purchase.{Purchase}
 use Rattle.rules.proofs.Answering.{seat}
 use Rattle.law.specs.History.{PurchaseName, Entry, Given, makes_purchase, code, last_given, message_from, named, purchases, said, succeeds}
 use Rattle.law.specs.Stands.{booked_of, name_of}
-use Rattle.law.proofs.Base.{sames_equal, sames_refl}
+use Rattle.rules.proofs.Sames.{sames_equal, sames_refl}
 use Rattle.law.proofs.Invariants.{Shows}
 use Rattle.law.proofs.Rows.{booked_elsewhere, booked_here, first_push, map_update, placed, row_new, shown_push}
 

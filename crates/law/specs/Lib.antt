@@ -2,4 +2,3 @@ pub mod Carried
 pub mod History
 pub mod Reached
 pub mod Stands
-pub mod Worked

@@ -1,8 +1,10 @@
--- A bad line by its marks: which mark loses what, and what it makes of the fates below.
+-- A bad line by its marks: which mark loses what, what one call makes of it, and what it makes of the fates below.
 use Rattle.std.specs.Prelude.{◌≡◌, ℕ, cond, List, drop, ◌==◌, slice_index}
 use Rattle.host.specs.declared.Fate.{Fate}
 use Rattle.host.specs.declared.Fate.TheVariants.{Heard, LostGoing, LostReturning}
-use Rattle.host.specs.Parts.{Holdings, Assents, PutFates, ReadFates}
+use Rattle.host.specs.declared.PutReply.TheVariants.{Silent}
+use Rattle.host.specs.declared.ReadReply.TheVariants.{Silent as NoAnswer}
+use Rattle.host.specs.Parts.{Holdings, Assents, PutFates, ReadFates, PutSteps, ReadSteps}
 use Rattle.layers.specs.declared.bad_line.BadLine.{BadLine}
 
 -- a line takes so many marks at most
@@ -21,11 +23,11 @@ next_fate left = mark_fate (slice_index left 0)
 abbrev pub spent : List ℕ → List ℕ
 spent left = drop 1 left
 
--- what becomes of a call that meets a fate on the line: made below and answered, not made, or made and answered by silence
-abbrev pub Carried : {H A : Type 0} → (H → A → H → Type 0) → A → Fate → H → A → H → Type 0
-Carried call silence Heard before answer after = call before answer after
-Carried call silence LostGoing before answer after = (answer ≡ silence) × (after ≡ before)
-Carried {A = A} call silence LostReturning before answer after = (answer ≡ silence) × ((lost : A) × call before lost after)
+-- one call that meets a fate on the line: made below once and answered, not made, or made below once and answered by silence
+abbrev pub CalledBelow : {H A : Type 0} → (H → A → H → Type 0) → A → Fate → H → A → H → Type 0
+CalledBelow call silence Heard before answer after = call before answer after
+CalledBelow call silence LostGoing before answer after = (answer ≡ silence) × (after ≡ before)
+CalledBelow {A = A} call silence LostReturning before answer after = (answer ≡ silence) × ((lost : A) × call before lost after)
 
 -- a fate below, as it is through the line
 abbrev answer_lost : Fate → Fate
@@ -33,14 +35,27 @@ answer_lost Heard = LostReturning
 answer_lost LostGoing = LostGoing
 answer_lost LostReturning = LostReturning
 
-abbrev pub through : Fate → Fate → Fate
-through Heard below = below
-through LostGoing below = LostGoing
-through LostReturning below = answer_lost below
+abbrev pub fate_on_line : Fate → Fate → Fate
+fate_on_line Heard below = below
+fate_on_line LostGoing below = LostGoing
+fate_on_line LostReturning below = answer_lost below
 
 -- the marks that a line has left
 abbrev pub marks_left : {H : Type 0} → BadLine H → List ℕ
 marks_left line = line.marks.items
+
+-- one call: a mark is spent, and below is what this mark makes of the call
+pub record LineStep {H A : Type 0} (call : H → A → H → Type 0) (silence : A) (before : BadLine H) (answer : A) (after : BadLine H) : Type 0 where
+  pub marks : marks_left after ≡ spent (marks_left before)
+  pub below : CalledBelow call silence (next_fate (marks_left before)) before.below answer after.below
+
+abbrev pub line_put_step : {H : Type 0} → PutSteps H → PutSteps (BadLine H)
+line_put_step step before card reference amount answer after =
+    LineStep (λ host reply host'. step host card reference amount reply host') Silent before answer after
+
+abbrev pub line_read_step : {H : Type 0} → ReadSteps H → ReadSteps (BadLine H)
+line_read_step step before card reference answer after =
+    LineStep (λ host reply host'. step host card reference reply host') NoAnswer before answer after
 
 -- its four parts, from those of the host below
 abbrev pub line_held : {H : Type 0} → (H → Holdings) → BadLine H → Holdings
@@ -50,7 +65,7 @@ abbrev pub line_assent : {H : Type 0} → (H → Assents) → BadLine H → Asse
 line_assent assent line = assent line.below
 
 abbrev pub line_put_fate : {H : Type 0} → (H → PutFates) → BadLine H → PutFates
-line_put_fate fate line card reference amount = through (next_fate (marks_left line)) (fate line.below card reference amount)
+line_put_fate fate line card reference amount = fate_on_line (next_fate (marks_left line)) (fate line.below card reference amount)
 
 abbrev pub line_read_fate : {H : Type 0} → (H → ReadFates) → BadLine H → ReadFates
-line_read_fate fate line card reference = through (next_fate (marks_left line)) (fate line.below card reference)
+line_read_fate fate line card reference = fate_on_line (next_fate (marks_left line)) (fate line.below card reference)

@@ -1,10 +1,8 @@
 //! A line that loses calls or answers, over any host.
 ghost use Rattle.std.specs.Prelude.{◌≡◌, take, drop};
 ghost use Rattle.std.specs.Fn.{FnOnceReturnsAtMut};
-ghost use Rattle.host.specs.Meaning.{PutMeans, ReadMeans};
 ghost use Rattle.host.specs.Parts.{NothingWhere};
-ghost use Rattle.host.specs.declared.Fate.TheVariants.{LostGoing};
-ghost use Rattle.layers.specs.Line.{Carried, line_assent, line_held, line_put_fate, line_read_fate, mark_fate, marks_left, most_marks, next_fate, spent};
+ghost use Rattle.layers.specs.Line.{LineStep, line_assent, line_held, line_put_fate, line_put_step, line_read_fate, line_read_step, mark_fate, marks_left, most_marks, next_fate, spent};
 
 use arrayvec::ArrayVec;
 use host::{Amount, Fate, Host, Pair, PutReply, ReadReply};
@@ -63,11 +61,9 @@ impl<H: Host> BadLine<H> {
 
     /// Spends the next mark on the call, and makes it below unless the mark loses it; a call that is
     /// lost, or whose answer is, answers silence.
-    // The clause `marks` stands in this method, in `spend`, in `put` and in `read`: each promises it of its own call.
     fn carry<A: Drop, F: FnOnce(&mut H) -> A + Drop>(&mut self, call: F, silence: A) -> A
         requires { F.IsAlwaysCallable call }
-        ensures marks { marks_left self.new ≡ spent (marks_left self.old) }
-        ensures below { Carried (FnOnceReturnsAtMut F.FnOnce call) silence (next_fate (marks_left self.old)) self.old.below result self.new.below }
+        ensures { LineStep (FnOnceReturnsAtMut F.FnOnce call) silence self.old result self.new }
     {
         match self.spend() {
             Fate::Heard => call(&mut self.below),
@@ -81,6 +77,14 @@ impl<H: Host> BadLine<H> {
 }
 
 impl<H> BadLine<H> {
+    /// The marks that are left, the next one first.
+    pub fn marks(&self) -> &[u8]
+        ensures { result.now ≡ marks_left self.now }
+    {
+        self.marks.as_slice()
+    }
+
+    /// The host below.
     pub fn below(&self) -> &H
         ensures { result.now ≡ self.now.below }
     {
@@ -97,19 +101,15 @@ impl<H: Host> Host for BadLine<H> {
 
     ghost read_fate = { line_read_fate H.Host.read_fate };
 
-    fn put(&mut self, pair: Pair, amount: Amount) -> PutReply
-        ensures means { PutMeans (line_put_fate H.Host.put_fate self.old) (line_held H.Host.held self.old) (line_assent H.Host.assent self.old) (line_held H.Host.held self.new) pair.card pair.reference amount result }
-        ensures marks { marks_left self.new ≡ spent (marks_left self.old) }
-        ensures uncalled { next_fate (marks_left self.old) ≡ LostGoing → self.new.below ≡ self.old.below }
-    {
+    ghost put_step = { line_put_step H.Host.put_step };
+
+    ghost read_step = { line_read_step H.Host.read_step };
+
+    fn put(&mut self, pair: Pair, amount: Amount) -> PutReply {
         self.carry(|below| below.put(pair, amount), PutReply::Silent)
     }
 
-    fn read(&mut self, pair: Pair) -> ReadReply
-        ensures means { ReadMeans (line_read_fate H.Host.read_fate self.old) (line_held H.Host.held self.old) (line_held H.Host.held self.new) pair.card pair.reference result }
-        ensures marks { marks_left self.new ≡ spent (marks_left self.old) }
-        ensures uncalled { next_fate (marks_left self.old) ≡ LostGoing → self.new.below ≡ self.old.below }
-    {
+    fn read(&mut self, pair: Pair) -> ReadReply {
         self.carry(|below| below.read(pair), ReadReply::Silent)
     }
 }

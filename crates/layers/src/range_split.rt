@@ -1,9 +1,8 @@
 //! Two hosts, of which each card has one by its leading digits.
 ghost use Rattle.std.specs.Prelude.{◌≡◌};
-ghost use Rattle.host.specs.Meaning.{PutMeans, ReadMeans};
 ghost use Rattle.host.specs.Parts.{NothingWhereBoth};
 ghost use Rattle.layers.specs.Digits.{LeadingSix, leading_six};
-ghost use Rattle.layers.specs.Split.{OtherSame, is_left, split_assent, split_held, split_put_fate, split_read_fate};
+ghost use Rattle.layers.specs.Split.{is_left, split_assent, split_held, split_put_fate, split_put_step, split_read_fate, split_read_step};
 
 use host::{Amount, Card, Host, Pair, PutReply, ReadReply};
 
@@ -79,10 +78,11 @@ impl<L: Host, R: Host> Host for RangeSplit<L, R> {
 
     ghost read_fate = { split_read_fate L.Host.read_fate R.Host.read_fate };
 
-    fn put(&mut self, pair: Pair, amount: Amount) -> PutReply
-        ensures means { PutMeans (split_put_fate L.Host.put_fate R.Host.put_fate self.old) (split_held L.Host.held R.Host.held self.old) (split_assent L.Host.assent R.Host.assent self.old) (split_held L.Host.held R.Host.held self.new) pair.card pair.reference amount result }
-        ensures other { OtherSame self.old self.new pair.card }
-    {
+    ghost put_step = { split_put_step L.Host.put_step R.Host.put_step };
+
+    ghost read_step = { split_read_step L.Host.read_step R.Host.read_step };
+
+    fn put(&mut self, pair: Pair, amount: Amount) -> PutReply {
         if self.is_left(pair.card) {
             self.left.put(pair, amount)
         } else {
@@ -90,10 +90,7 @@ impl<L: Host, R: Host> Host for RangeSplit<L, R> {
         }
     }
 
-    fn read(&mut self, pair: Pair) -> ReadReply
-        ensures means { ReadMeans (split_read_fate L.Host.read_fate R.Host.read_fate self.old) (split_held L.Host.held R.Host.held self.old) (split_held L.Host.held R.Host.held self.new) pair.card pair.reference result }
-        ensures other { OtherSame self.old self.new pair.card }
-    {
+    fn read(&mut self, pair: Pair) -> ReadReply {
         if self.is_left(pair.card) {
             self.left.read(pair)
         } else {

@@ -2,20 +2,23 @@
 //! drawer on the right, and for each what was asked, what was answered and what is held after.
 #![tactic(auto)]
 
-ghost use Rattle.std.specs.Prelude.{◌≡◌};
+ghost use Rattle.std.specs.Prelude.{◌≡◌, ◌≢◌, true, false};
+ghost use Rattle.host.specs.declared.Fate.TheVariants.{LostGoing};
+ghost use Rattle.hosts.specs.Book.{holds_after};
 ghost use Rattle.hosts.specs.BookHost.{book_held};
+ghost use Rattle.hosts.specs.Drawer.{vouchers_after};
 ghost use Rattle.hosts.specs.DrawerHost.{drawer_held};
-ghost use Rattle.layers.specs.Line.{line_held};
-ghost use Rattle.layers.specs.Split.{split_held};
+ghost use Rattle.layers.specs.Line.{line_held, marks_left, next_fate};
+ghost use Rattle.layers.specs.Split.{is_left, split_held};
 
-use host::{Amount, Card, Host, Pair, Reference};
+use host::{Amount, Card, Host, Pair, PutReply, Reference};
 use hosts::account_book::{Account, AccountBook, Hold};
 use hosts::voucher_drawer::{Voucher, VoucherDrawer};
 use layers::bad_line::BadLine;
 use layers::range_split::RangeSplit;
 use std::io;
 
-type Bank<'a, 'h, 'v> = RangeSplit<BadLine<AccountBook<'a, 'h>>, VoucherDrawer<'v>>;
+type Bank<'a, 'v> = RangeSplit<BadLine<AccountBook<'a>>, VoucherDrawer<'v>>;
 
 // An enum, since the calls are a table, printed one after the other; card and reference stand apart, to keep its lines short.
 #[derive(Clone, Copy)]
@@ -85,7 +88,7 @@ const CALLS: [Call; 30] = [
 ];
 
 /// What is held now, without a call.
-fn held(bank: &Bank<'_, '_, '_>, pair: Pair) -> Amount
+fn held(bank: &Bank<'_, '_>, pair: Pair) -> Amount
     ensures { result ≡ split_held (line_held book_held) drawer_held bank.now pair.card pair.reference }
 {
     if bank.is_left(pair.card) {
@@ -95,12 +98,26 @@ fn held(bank: &Bank<'_, '_, '_>, pair: Pair) -> Amount
     }
 }
 
+/// Puts through the split. For a card of the left host the line's next mark decides whether the put
+/// reaches the book and its holds; for any other card it reaches the drawer and its vouchers.
+fn put(bank: &mut Bank<'_, '_>, pair: Pair, amount: Amount) -> PutReply
+    ensures lost { is_left bank.old pair.card ≡ true → next_fate (marks_left bank.old.left) ≡ LostGoing
+        → bank.new.left.below.holds.now ≡ bank.old.left.below.holds.now }
+    ensures made { let book = bank.old.left.below in
+        is_left bank.old pair.card ≡ true → next_fate (marks_left bank.old.left) ≢ LostGoing
+        → bank.new.left.below.holds.now ≡ holds_after book.accounts.now book.holds.now pair.card pair.reference amount }
+    ensures vouchers { is_left bank.old pair.card ≡ false
+        → bank.new.right.vouchers.now ≡ vouchers_after bank.old.right.vouchers.now pair.card pair.reference amount }
+{
+    bank.put(pair, amount)
+}
+
 /// Makes the call, and prints it with its answer and what is held after.
-fn show(rt: &HostRuntime, bank: &mut Bank<'_, '_, '_>, call: Call) -> io::Result<()> {
+fn show(rt: &HostRuntime, bank: &mut Bank<'_, '_>, call: Call) -> io::Result<()> {
     match call {
         Put(card, reference, amount) => {
             let pair = Pair { card, reference };
-            let reply = bank.put(pair, amount);
+            let reply = put(bank, pair, amount);
             let after = held(bank, pair);
             println!(rt; "put {card} {reference} {amount}: {reply}, held {after}")
         }

@@ -1,5 +1,5 @@
 -- The first row of a list that passes a test: its place, the row itself, the list with it rewritten, and both halves in full.
-use Rattle.std.specs.Prelude.{◌≡◌, ℕ, suc, ◌<◌, Bool, true, false, cond, List, [], ◌∷◌, length, Some, None, Option, slice_index_or}
+use Rattle.std.specs.Prelude.{◌≡◌, ℕ, suc, ◌<◌, Bool, true, false, cond, List, [], ◌∷◌, length, Some, None, Option}
 use Rattle.std.specs.Option.{option_map}
 use Rattle.std.specs.List.{HoldsAt, AllWithin, find}
 
@@ -27,8 +27,3 @@ pub record Found {R : Type 0} (test : R → Bool) (rows : List R) (place : ℕ) 
 abbrev pub FirstOrNone : {R : Type 0} → (R → Bool) → List R → Option ℕ → Type 0
 FirstOrNone test rows None = AllWithin (λ row. test row ≡ false) rows 0 (length rows)
 FirstOrNone test rows (Some place) = Found test rows place
-
--- what stands at the place that a search answers: the first row that passes
-abbrev pub Stands : {R : Type 0} → (R → Bool) → List R → Option ℕ → Type 0
-Stands test rows None = row_with test rows ≡ None
-Stands {R} test rows (Some place) = (d : R) → row_with test rows ≡ Some (slice_index_or rows place d)

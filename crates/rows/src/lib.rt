@@ -2,7 +2,7 @@
 #![tactic(auto)]
 
 ghost use Rattle.std.specs.Prelude.{◌≡◌, Bool};
-ghost use Rattle.rows.specs.First.{FirstOrNone, Stands, first_with, row_with};
+ghost use Rattle.rows.specs.First.{FirstOrNone};
 
 /// A row that can be looked for by a key of its own kind, such as twenty bytes or a pair of numbers.
 pub trait Keyed {
@@ -17,16 +17,7 @@ pub trait Keyed {
 
 /// The place of the first row that has the key, or nothing where no row has it.
 pub fn search<R: Keyed>(rows: &[R], key: &R::Key) -> Option<usize>
-    ensures value { result ≡ first_with (λ row. R.same row key.now) rows.now }
-    ensures cases { FirstOrNone (λ row. R.same row key.now) rows.now result }
-    ensures row { Stands (λ row. R.same row key.now) rows.now result }
+    ensures { FirstOrNone (λ row. R.same row key.now) rows.now result }
 {
     rows.iter().position(|row| row.has(key))
-}
-
-/// A copy of the first row that has the key, or nothing where no row has it.
-pub fn find<R: Keyed + Copy>(rows: &[R], key: &R::Key) -> Option<R>
-    ensures { result ≡ row_with (λ row. R.same row key.now) rows.now }
-{
-    rows.iter().copied().find(|row| row.has(key))
 }

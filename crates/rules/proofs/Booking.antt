@@ -49,14 +49,3 @@ module _ (l : Ledger) (m : Fields) (k : ℕ) (kind : m.kind ≡ k) (f : Purchase
       ap (noted m (left_of (f p))) rewritten
       ∙ ap (λ a. noted m a (moved l m uncalled)) booked_value
       ∙ sym (remembered_at l m k kind uncalled (answered l m uncalled) (moved l m uncalled) kept)
-
-  -- the same of rows that were worked out and booked
-  pub booked : (p' : Purchase) (b' : Batch) → p' ≡ f p → b' ≡ g b → (r : Performed) (x : Ledger) → r ≡ left_of p' → x ≡ noted m (left_of p') (on_batch m (λ _. b') (on_purchase m (λ _. p') l))
-      → (r ≡ answered l m uncalled) × (x ≡ remembered m (answered l m uncalled) (moved l m uncalled))
-  booked p' b' of-p of-b r x value rows = (
-    value ∙ ap left_of of-p ∙ booked_value,
-    rows
-        ∙ ap (λ q. noted m (left_of q) (on_batch m (λ _. b') (on_purchase m (λ _. q) l))) of-p
-        ∙ ap (λ c. noted m (left_of (f p)) (on_batch m (λ _. c) (on_purchase m (λ _. f p) l))) of-b
-        ∙ booked_rows,
-  )

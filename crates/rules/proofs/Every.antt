@@ -1,5 +1,5 @@
 -- A test that every row passes, after a row is looked up, rewritten or added.
-use Rattle.std.proofs.Common.{◌≡◌, ◌&&◌, Bool, true, false, cond, List, [], ◌∷◌, Some, None, sym, refl, ap, ◌∙◌}
+use Rattle.std.proofs.Common.{◌≡◌, Bool, true, false, cond, List, [], ◌∷◌, Some, None, unwrap_or, sym, refl, ap, ◌∙◌}
 use Rattle.std.proofs.lemmas.Bool.{and_parts, and_from}
 use Rattle.std.specs.List.{list_all}
 use Rattle.rows.specs.First.{row_with, update_first}
@@ -13,6 +13,16 @@ module _ {R : Type 0} (test : R → Bool) where
         | true ↦ λ here. let same : x ≡ row = cc in ap test (sym same) ∙ (and_parts (test x) (list_all test rows) all).0
         | false ↦ λ later. every_row sought rows row (and_parts (test x) (list_all test rows) all).1 later
       ] is
+
+  -- and so does what stands for one that is not found, if it passes
+  pub every_found : (sought : R → Bool) (rows : List R) (none : R) → list_all test rows ≡ true → test none ≡ true → test (unwrap_or (row_with sought rows) none) ≡ true
+  every_found sought [] none all ok = ok
+  every_found sought (x ∷ rows) none all ok =
+      let both = and_parts (test x) (list_all test rows) all in
+      elim (sought x) as (λ t. test (unwrap_or (cond t (Some x) (row_with sought rows)) none) ≡ true) [
+        | true ↦ both.0
+        | false ↦ every_found sought rows none both.1 ok
+      ]
 
   -- they pass with one rewritten to such as does
   pub every_update : (sought : R → Bool) (rows : List R) (row : R) → list_all test rows ≡ true → test row ≡ true → list_all test (update_first sought (λ _. row) rows) ≡ true

@@ -1,8 +1,12 @@
 pub mod Answering
 pub mod Booking
 pub mod Every
+pub mod Outcomes
 pub mod Passed
+pub mod Plans
+pub mod Sames
 pub mod Settles
 pub mod Table
 pub mod Totals
 pub mod Ways
+pub mod Writes

@@ -2,14 +2,11 @@
 use Rattle.std.proofs.Common.{◌≡◌, ℕ, zero, suc, ◌<◌, ◌≤◌, Bool, true, false, cond, not, ◌&&◌, ◌||◌, eqb, leb, List, [], ◌∷◌, length, Some, None, Option, sym, refl, ap, ◌∙◌, subst, arith}
 use Rattle.std.proofs.lemmas.Bool.{and_parts, and_from, cond-true, cond-false, true≢false, both_ways, leb-true, leb-false, le-leb, ne_eqb, not-true}
 use Rattle.std.specs.List.{list_all}
-use Rattle.fields.specs.Kind.{is_kind, kind_number}
-use Rattle.fields.specs.declared.kind.Kind.{Kind}
-use Rattle.fields.specs.declared.kind.Kind.TheVariants.{AuthReq, AuthRevReq, BatchClose, BatchOpen, CapReq, CapRevReq, CredReq, CredRevReq, Inquiry}
+use Rattle.fields.specs.Kind.{is_kind}
 use Rattle.wire.specs.declared.message.Fields.{Fields}
 use Rattle.rules.specs.Checks.{Check, among, book_checks, refusal, refuses, used_otherwise}
 use Rattle.rules.specs.Ledger.{Ledger, facts_of, remembered_of}
-use Rattle.rules.specs.Outcome.{outcome_code}
-use Rattle.rules.specs.Rules.{Call, Reply, answer_by, answer_of, books_after, books_by, call_by, call_of, card_of, choose, is_silent, no_call, put_of, read, reference_of, remembers, repeat_in, way}
+use Rattle.rules.specs.Rules.{Call, Reply, answer_by, answer_of, books_after, books_by, call_by, call_of, card_of, choose, is_forgotten, is_silent, no_call, put_of, read, reference_of, remembers, repeat_in, way}
 use Rattle.rules.specs.Same.{same_fields}
 use Rattle.rules.specs.declared.outcome.Outcome.{Outcome}
 use Rattle.rules.specs.declared.outcome.Outcome.TheVariants.{MemoryFull, RequestNumberUsed}
@@ -17,6 +14,7 @@ use Rattle.rules.specs.declared.outcome.Performed.{Performed}
 use Rattle.rules.specs.declared.remembered.Remembered.{Remembered}
 use Rattle.rules.specs.declared.way.Way.{Way}
 use Rattle.rules.specs.declared.way.Way.TheVariants.{Again, Retry, Stopped, Through}
+use Rattle.rules.proofs.Outcomes.{is_check}
 
 -- the answer that is remembered for just this message
 abbrev pub recalled : Ledger → Fields → Option Performed
@@ -26,19 +24,23 @@ recalled l m = repeat_in (remembered_of l m) m
 abbrev pub book_refusal : Ledger → Fields → Option Outcome
 book_refusal l m = refusal m.kind (book_checks (facts_of l m) m)
 
+-- why a check refuses it
+pub data Refused (l : Ledger) (m : Fields) (o : Outcome) : Type 0 where
+  -- its request number is used
+  used_number : o ≡ RequestNumberUsed → used_otherwise (remembered_of l m) m ≡ true → Refused l m o
+  -- the memory is full
+  full_memory : o ≡ MemoryFull → remembered_of l m ≡ None → 256 ≤ length l.answers → Refused l m o
+  -- by another check, whose refusal is remembered
+  other_check : is_forgotten o ≡ false → recalled l m ≡ None → (eqb m.kind 9 ≡ false → (remembered_of l m ≡ None) × (length l.answers < 256)) → Refused l m o
+
 -- the way that a message went
 pub data Went (l : Ledger) (m : Fields) : Type 0 where
   -- a repeat, answered from memory
   again : (a : Performed) → way l m ≡ Again a → recalled l m ≡ Some a → is_silent a ≡ false → Went l m
   -- a repeat of what was answered 25
   retried : (a : Performed) → way l m ≡ Retry → recalled l m ≡ Some a → is_silent a ≡ true → Went l m
-  -- its request number is used
-  used : way l m ≡ Stopped RequestNumberUsed → eqb m.kind 9 ≡ false → used_otherwise (remembered_of l m) m ≡ true → Went l m
-  -- the memory is full
-  forgotten : way l m ≡ Stopped MemoryFull → eqb m.kind 9 ≡ false → remembered_of l m ≡ None → 256 ≤ length l.answers → Went l m
-  -- another check refuses it
-  stopped : (o : Outcome) → way l m ≡ Stopped o → recalled l m ≡ None → book_refusal l m ≡ Some o → 10 ≤ outcome_code o → outcome_code o ≤ 23
-      → (eqb m.kind 9 ≡ false → (remembered_of l m ≡ None) × (length l.answers < 256)) → Went l m
+  -- a check refuses it
+  stopped : (o : Outcome) → way l m ≡ Stopped o → is_check o ≡ true → Refused l m o → Went l m
   -- past all checks
   through : way l m ≡ Through → recalled l m ≡ None → book_refusal l m ≡ None
       → (eqb m.kind 9 ≡ false → (remembered_of l m ≡ None) × (length l.answers < 256)) → Went l m
@@ -101,25 +103,17 @@ pub by_way : (l : Ledger) (m : Fields) (reply : Reply) (P : Call → Performed �
     → P (call_by x (put_of l m) (call_at l m m.kind)) (answer_by x l m reply) (books_by x l m reply) → P (call_of l m) (answer_of l m reply) (books_after l m reply)
 by_way l m reply P x is = subst (λ y. P (call_by y (put_of l m) (call_at l m m.kind)) (answer_by y l m reply) (books_by y l m reply)) (sym is)
 
--- whether every row has a code from 10 to 23
-abbrev within : Outcome → Bool
-within o = leb 10 (outcome_code o) && leb (outcome_code o) 23
+-- what holds of the outcome of every row holds of the one that is refused with
+refused_all : (holds : Outcome → Bool) (k : ℕ) (rows : List Check) → list_all (λ row. holds row.outcome) rows ≡ true → (o : Outcome) → refusal k rows ≡ Some o → holds o ≡ true
+refused_all holds k [] all o is = cc
+refused_all holds k (row ∷ rows) all o is =
+    let both = and_parts (holds row.outcome) (list_all (λ x. holds x.outcome) rows) all in
+    elim (refuses k row) as (λ t. cond t (Some row.outcome) (refusal k rows) ≡ Some o → holds o ≡ true) [
+      | true ↦ λ here. let same : row.outcome ≡ o = cc in ap holds (sym same) ∙ both.0
+      | false ↦ refused_all holds k rows both.1 o
+    ] is
 
-abbrev all_within : List Check → Bool
-all_within rows = list_all (λ row. within row.outcome) rows
-
--- then so has what they refuse with
-refused_within : (k : ℕ) (rows : List Check) → all_within rows ≡ true → (o : Outcome) → refusal k rows ≡ Some o → within o ≡ true
-refused_within k [] all o is = cc
-refused_within k (row ∷ rows) all o is =
-    let both = and_parts (within row.outcome) (all_within rows) all in
-    at_row (refuses k row) is both.0 (refused_within k rows both.1 o)
-  where
-    at_row : (t : Bool) → cond t (Some row.outcome) (refusal k rows) ≡ Some o → within row.outcome ≡ true → (refusal k rows ≡ Some o → within o ≡ true) → within o ≡ true
-    at_row true here fits later = let same : row.outcome ≡ o = cc in ap within (sym same) ∙ fits
-    at_row false rest fits later = later rest
-
--- the checks from 10 on
+-- the checks after the first, which is that of a full memory
 abbrev after_first : List Check → List Check
 after_first [] = []
 after_first (row ∷ rows) = rows
@@ -148,15 +142,15 @@ module _ (l : Ledger) (m : Fields) (kind : is_kind m.kind ≡ true) where
       at_later e None r = let b = book e ∙ r in through (is ∙ ap (choose None None) b) none b (roomy e)
       at_later e (Some o) r =
           let b = book e ∙ r in
-          let both = and_parts (leb 10 (outcome_code o)) (leb (outcome_code o) 23) (refused_within m.kind later refl o r) in
-          stopped o (is ∙ ap (choose None None) b) none b (leb-true _ _ both.0) (leb-true _ _ both.1) (roomy e)
+          let both = and_parts (is_check o) (not (is_forgotten o)) (refused_all (λ x. is_check x && not (is_forgotten x)) m.kind later refl o r) in
+          stopped o (is ∙ ap (choose None None) b) both.0 (other_check (not-true _ both.1) none (roomy e))
 
       at_first : (t : Bool) → (not (eqb m.kind 9) && leb 256 (length l.answers)) ≡ t → Went l m
       at_first true e =
           let both = and_parts (not (eqb m.kind 9)) (leb 256 (length l.answers)) e in
           let other = not-true (eqb m.kind 9) both.0 in
           let most = leb-true 256 (length l.answers) both.1 in
-          forgotten (is ∙ ap (choose None None) (full_refuses other most)) other (free other) most
+          stopped MemoryFull (is ∙ ap (choose None None) (full_refuses other most)) refl (full_memory refl (free other) most)
       at_first false e = at_later e (refusal m.kind later) refl
 
   -- the way, by what is remembered under its request number
@@ -191,7 +185,7 @@ module _ (l : Ledger) (m : Fields) (kind : is_kind m.kind ≡ true) where
       by_same true e true same = went_repeated r.answer (goes true e true same) (recall true same)
       by_same false e true same = went_repeated r.answer (goes false e true same) (recall true same)
       by_same true e false same = went_checked (goes true e false same) (recall false same) (λ other. absurd (both_ways (eqb m.kind 9) other e))
-      by_same false e false same = used (goes false e false same) e (ap (λ x. used_otherwise x m) is ∙ ap not same)
+      by_same false e false same = stopped RequestNumberUsed (goes false e false same) refl (used_number refl (ap (λ x. used_otherwise x m) is ∙ ap not same))
 
   -- nothing is remembered there
   went_new : remembered_of l m ≡ None → Went l m
@@ -216,34 +210,23 @@ through_passes l m kind is = by (went l m kind)
     by : Went l m → book_refusal l m ≡ None
     by (again a w known loud) = cc
     by (retried a w known silent) = cc
-    by (used w other u) = cc
-    by (forgotten w other none full) = cc
-    by (stopped o w none refused low high free) = cc
+    by (stopped o w check why) = cc
     by (through w none passed free) = passed
 
 -- a refusal that is remembered finds memory
 pub stopped_room : (l : Ledger) (m : Fields) → is_kind m.kind ≡ true → (o : Outcome) → way l m ≡ Stopped o → remembers m o ≡ true → length l.answers < 256
 stopped_room l m kind o is kept = by (went l m kind)
   where
-    forgets : (x : Outcome) → o ≡ x → among (outcome_code x) (8 ∷ 9 ∷ []) ≡ true → length l.answers < 256
-    forgets x same never = absurd (both_ways _ (ap not (ap (λ y. among (outcome_code y) (8 ∷ 9 ∷ [])) same ∙ never)) (and_parts (not (eqb m.kind 9)) _ kept).1)
+    parts : (not (eqb m.kind 9) ≡ true) × (not (is_forgotten o) ≡ true)
+    parts = and_parts (not (eqb m.kind 9)) (not (is_forgotten o)) kept
+
+    refused : Refused l m o → length l.answers < 256
+    refused (used_number is taken) = absurd (both_ways _ (ap (λ x. not (is_forgotten x)) is) parts.1)
+    refused (full_memory is new most) = absurd (both_ways _ (ap (λ x. not (is_forgotten x)) is) parts.1)
+    refused (other_check loud none free) = (free (not-true _ parts.0)).1
 
     by : Went l m → length l.answers < 256
     by (again a w known loud) = absurd (true≢false cc)
     by (retried a w known silent) = absurd (true≢false cc)
-    by (used w other u) = let same : o ≡ RequestNumberUsed = cc in forgets RequestNumberUsed same refl
-    by (forgotten w other none full) = let same : o ≡ MemoryFull = cc in forgets MemoryFull same refl
-    by (stopped x w none refused low high free) = (free (not-true (eqb m.kind 9) (and_parts (not (eqb m.kind 9)) _ kept).0)).1
+    by (stopped x w check why) = let same : x ≡ o = cc in refused (subst (Refused l m) same why)
     by (through w none passed free) = absurd (true≢false cc)
-
--- the number of a kind is one of the nine
-pub number_is_kind : (k : Kind) → is_kind (kind_number k) ≡ true
-number_is_kind AuthReq = refl
-number_is_kind AuthRevReq = refl
-number_is_kind CapReq = refl
-number_is_kind CapRevReq = refl
-number_is_kind CredReq = refl
-number_is_kind CredRevReq = refl
-number_is_kind BatchOpen = refl
-number_is_kind BatchClose = refl
-number_is_kind Inquiry = refl

@@ -1,11 +1,9 @@
 -- The checks of performing, as a table of rows: number, kinds, cause. The first row that applies refuses the message.
-use Rattle.std.specs.Prelude.{◌≡◌, ℕ, ◌-◌, Bool, false, cond, not, ◌&&◌, ◌||◌, List, [], ◌∷◌, map, is_some, Some, None, Option, ◌==◌, nat_le, nat_lt}
+use Rattle.std.specs.Prelude.{◌≡◌, ℕ, ◌-◌, Bool, false, cond, not, ◌&&◌, ◌||◌, List, [], ◌∷◌, is_some, Some, None, Option, ◌==◌, nat_le, nat_lt}
 use Rattle.std.specs.Option.{unwrap_or}
-use Rattle.fields.specs.Kind.{kind_number}
 use Rattle.wire.specs.declared.message.Fields.{Fields}
 use Rattle.rules.specs.Ledger.{no_purchase, no_batch}
 use Rattle.rules.specs.Same.{same_fields}
-use Rattle.rules.specs.declared.checks.Row.{Row}
 use Rattle.rules.specs.declared.facts.Facts.{Facts}
 use Rattle.rules.specs.Outcome.{outcome_code}
 use Rattle.rules.specs.declared.outcome.Outcome.{Outcome}
@@ -34,10 +32,6 @@ check number outcome kinds cause = record { number = number; outcome = outcome; 
 abbrev pub among : ℕ → List ℕ → Bool
 among k [] = false
 among k (x ∷ xs) = k == x || among k xs
-
--- a row of the code's table
-abbrev pub row_of : Row → Check
-row_of row = check (outcome_code row.outcome) row.outcome (map kind_number row.kinds.now) row.cause
 
 -- whether a row refuses a message of a kind
 abbrev pub refuses : ℕ → Check → Bool

@@ -1,7 +1,10 @@
+pub mod Causes
+pub mod Change
 pub mod Checks
+pub mod Found
 pub mod Ledger
-pub mod Meeting
 pub mod Outcome
+pub mod Plan
 pub mod Rules
 pub mod Same
 pub mod Sound

@@ -1,21 +1,23 @@
-// A batch in the books.
-ghost use Rattle.std.specs.Prelude.{◌≡◌};
+//! A batch in the books, and all that makes or rewrites one.
+ghost use Rattle.std.specs.Prelude.{◌≡◌, ◌≤◌, pos, ◌+ℤ◌, ◌-ℤ◌};
 ghost use Rattle.rules.specs.Ledger.{of_batch};
+ghost use Rattle.rules.specs.Rules.{new_batch, shut, with_total};
+ghost use Rattle.rules.specs.Sound.{most_pence, most_total, size};
 
 use rows::Keyed;
 use wire::message::Fields;
 
+/// A batch of a course. A closed one keeps its total.
 #[derive(Clone, Copy, PartialEq, Eq, Debug)]
 pub struct Batch {
     pub course: u32,
     pub number: u32,
-    // beside the total and not in an enum with it: a closed batch keeps its total
     pub closed: bool,
-    // captures and credit reversals less credits and capture reversals, in pence
+    /// Captures and credit reversals less credits and capture reversals, in pence.
     pub total: i64,
 }
 
-// A batch is known by its course and number.
+/// A batch is known by its course and number.
 #[derive(Clone, Copy, PartialEq, Eq, Debug)]
 pub struct BatchKey {
     pub course: u32,
@@ -24,7 +26,6 @@ pub struct BatchKey {
 
 impl BatchKey {
     /// The key of the batch that a message names.
-    // by a name and not by From: a message is no key in another form
     pub fn of(m: &Fields) -> BatchKey
         ensures { result ≡ record { course = m.now.course; number = m.now.batch } }
     {
@@ -40,8 +41,62 @@ impl Keyed for Batch {
 
     ghost same = { λ b key. of_batch key.course key.number b };
 
-    // by the two fields: a key made of them to be compared is no shorter
     fn has(&self, key: &BatchKey) -> bool {
-        self.course == key.course && self.number == key.number
+        self.number == key.number && self.course == key.course
+    }
+}
+
+impl Batch {
+    /// What stands for a batch that the books do not have.
+    pub(crate) const NONE: Batch = Batch {
+        course: 0,
+        number: 0,
+        closed: false,
+        total: 0,
+    };
+
+    /// A new batch of this course and number, open, with nothing in it.
+    pub(crate) fn new(m: &Fields) -> Batch
+        ensures { result ≡ new_batch m.now }
+    {
+        Batch {
+            course: m.course,
+            number: m.batch,
+            ..Batch::NONE
+        }
+    }
+
+    /// The batch with an amount added to its total.
+    pub(crate) fn plus(self, amount: u64) -> Batch
+        requires small { amount ≤ most_pence }
+        requires bound { size self.total ≤ most_total 256 }
+        ensures { result ≡ with_total (self.total +ℤ pos amount) self }
+    {
+        Batch {
+            total: self.total + amount as i64,
+            ..self
+        }
+    }
+
+    /// The batch with an amount taken from its total.
+    pub(crate) fn minus(self, amount: u64) -> Batch
+        requires small { amount ≤ most_pence }
+        requires bound { size self.total ≤ most_total 256 }
+        ensures { result ≡ with_total (self.total -ℤ pos amount) self }
+    {
+        Batch {
+            total: self.total - amount as i64,
+            ..self
+        }
+    }
+
+    /// The batch once it is closed.
+    pub(crate) fn shut(self) -> Batch
+        ensures { result ≡ shut self }
+    {
+        Batch {
+            closed: true,
+            ..self
+        }
     }
 }

@@ -1,143 +1,174 @@
-// The checks from 9 on: the table of rows that specs/Checks.antt has, in its order.
-ghost use Rattle.std.specs.Prelude.{◌≡◌, ◌-◌, map};
-ghost use Rattle.std.specs.Option.{unwrap_or};
+//! The checks from 8 on: that of the request number, and the table of the others, in the order of specs/Checks.antt.
+ghost use Rattle.std.specs.Prelude.{◌≡◌, map};
 ghost use Rattle.fields.specs.Kind.{kind_number};
-ghost use Rattle.rules.specs.Checks.{book_checks, check, refusal, refuses, row_of};
-ghost use Rattle.rules.specs.Ledger.{no_purchase};
-ghost use Rattle.rules.specs.Outcome.{outcome_code};
+ghost use Rattle.rules.specs.Causes.{holds, kinds_in, row_of};
+ghost use Rattle.rules.specs.Checks.{Numbered, among, book_checks, refusal, refuses, request_checks};
 
-use crate::batch::Batch;
 use crate::facts::{ANSWERS, BATCHES, Facts, PURCHASES};
 use crate::outcome::Outcome::{self, *};
 use crate::purchase::Purchase;
+use crate::remembered::Remembered;
+use crate::same::same_fields;
 use fields::kind::Kind::{self, *};
 use wire::message::Fields;
 
-// What stands for a purchase or a batch that is not there, and what a new one begins as.
-pub(crate) const NO_PURCHASE: Purchase = Purchase {
-    xid: [0; 20],
-    course: 0,
-    card: 0,
-    authorised: 0,
-    captured: 0,
-    credited: 0,
-    batch: 0,
-    doubt: None,
-};
-
-pub(crate) const NO_BATCH: Batch = Batch {
-    course: 0,
-    number: 0,
-    closed: false,
-    total: 0,
-};
-
-pub fn purchase_or_none(found: Option<Purchase>) -> Purchase
-    ensures { result ≡ unwrap_or found no_purchase }
+/// Check 8, which inquiries skip: the course and request number are remembered with other fields
+/// (docs/rules.md, "The checks").
+pub fn request_refusal(kind: Kind, found: Option<Remembered>, m: &Fields) -> Option<Outcome>
+    ensures { result ≡ refusal (kind_number kind) (request_checks found m.now) }
 {
-    found.unwrap_or(NO_PURCHASE)
+    match found {
+        Some(r) if kind != Inquiry && !same_fields(&r.fields, m) => Some(RequestNumberUsed),
+        _ => None,
+    }
 }
 
-// What of the capture is not credited yet.
-pub fn uncredited(p: &Purchase) -> u64
-    ensures { result ≡ p.now.captured - p.now.credited }
-{
-    p.captured.saturating_sub(p.credited)
+// Sets of kinds, by the bit of each kind's number.
+const AUTH_REQ: u16 = 1 << AuthReq as u16;
+
+const AUTH_REV_REQ: u16 = 1 << AuthRevReq as u16;
+
+const CAP_REQ: u16 = 1 << CapReq as u16;
+
+const CAP_REV_REQ: u16 = 1 << CapRevReq as u16;
+
+const CRED_REQ: u16 = 1 << CredReq as u16;
+
+const CRED_REV_REQ: u16 = 1 << CredRevReq as u16;
+
+const BATCH_OPEN: u16 = 1 << BatchOpen as u16;
+
+const BATCH_CLOSE: u16 = 1 << BatchClose as u16;
+
+const INQUIRY: u16 = 1 << Inquiry as u16;
+
+// The kinds that need a purchase authorised and not captured yet, and those that need it captured.
+const BEFORE_CAPTURE: u16 = AUTH_REV_REQ | CAP_REQ;
+
+const AFTER_CAPTURE: u16 = CAP_REV_REQ | CRED_REQ | CRED_REV_REQ;
+
+// Those that move a purchase, those that need it known, and those that name one.
+const MOVING: u16 = AUTH_REQ | BEFORE_CAPTURE | AFTER_CAPTURE;
+
+const KNOWING: u16 = BEFORE_CAPTURE | AFTER_CAPTURE | INQUIRY;
+
+const NAMING: u16 = AUTH_REQ | KNOWING;
+
+// Those that need an open batch, and those whose answers are remembered.
+const BOOKING: u16 = CAP_REQ | AFTER_CAPTURE | BATCH_CLOSE;
+
+const REMEMBERED: u16 = MOVING | BATCH_OPEN | BATCH_CLOSE;
+
+// The causes of the checks, in the order of the table.
+#[derive(Clone, Copy)]
+enum Cause {
+    NoRowForAnswer,
+    NoSuchPurchase,
+    OtherCourse,
+    OtherCard,
+    HasDoubt,
+    SomeAuthorised,
+    NoRowForPurchase,
+    NoneAuthorised,
+    SomeCaptured,
+    NoneCaptured,
+    NotBelowAuthorised,
+    AboveAuthorised,
+    AboveUncredited,
+    AboveCredited,
+    NoSuchBatch,
+    ClosedBatch,
+    OtherBatchOrCredited,
+    BatchExists,
+    NoRowForBatch,
 }
 
-// The kinds whose answers are remembered.
-const REMEMBERED: &[Kind] = &[
-    AuthReq, AuthRevReq, CapReq, CapRevReq, CredReq, CredRevReq, BatchOpen, BatchClose,
-];
-
-// The kinds that name a purchase, and those of them that need it known.
-const NAMING: &[Kind] = &[
-    AuthReq, AuthRevReq, CapReq, CapRevReq, CredReq, CredRevReq, Inquiry,
-];
-
-const KNOWING: &[Kind] = &[AuthRevReq, CapReq, CapRevReq, CredReq, CredRevReq, Inquiry];
-
-// The kinds that move a purchase, and those that need one captured.
-const MOVING: &[Kind] = &[AuthReq, AuthRevReq, CapReq, CapRevReq, CredReq, CredRevReq];
-
-const AFTER_CAPTURE: &[Kind] = &[CapRevReq, CredReq, CredRevReq];
-
-// The kinds that need an open batch.
-const BOOKING: &[Kind] = &[CapReq, CapRevReq, CredReq, CredRevReq, BatchClose];
+impl Cause {
+    // A purchase or a batch that is not there is read as a row of zeros.
+    fn holds(self, f: &Facts, m: &Fields) -> bool
+        ensures { result ≡ holds self f.now m.now }
+    {
+        let known = f.purchase.is_some();
+        let p = f.purchase.as_ref().unwrap_or(&Purchase::NONE);
+        match self {
+            Cause::NoRowForAnswer => f.answers >= ANSWERS,
+            Cause::NoSuchPurchase => !known,
+            Cause::OtherCourse => known && p.course != m.course,
+            Cause::OtherCard => known && p.card != m.card,
+            Cause::HasDoubt => p.doubt.is_some(),
+            Cause::SomeAuthorised => p.authorised > 0,
+            Cause::NoRowForPurchase => f.purchases >= PURCHASES && !known,
+            Cause::NoneAuthorised => p.authorised == 0,
+            Cause::SomeCaptured => p.captured > 0,
+            Cause::NoneCaptured => p.captured == 0,
+            Cause::NotBelowAuthorised => m.amount >= p.authorised,
+            Cause::AboveAuthorised => m.amount > p.authorised,
+            Cause::AboveUncredited => m.amount > p.uncredited(),
+            Cause::AboveCredited => m.amount > p.credited,
+            Cause::NoSuchBatch => f.batch.is_none(),
+            Cause::ClosedBatch => f.batch.is_some_and(|b| b.closed),
+            Cause::OtherBatchOrCredited => p.batch != m.batch || p.credited > 0,
+            Cause::BatchExists => f.batch.is_some(),
+            Cause::NoRowForBatch => f.batches >= BATCHES,
+        }
+    }
+}
 
 // A row of the table: a message of these kinds is refused with this outcome where the cause holds.
 #[derive(Clone, Copy)]
-struct Row {
-    outcome: Outcome,
-    kinds: &'static [Kind],
-    // the truth of one column, worked out before the row is asked
-    cause: bool,
-}
+struct Row(Outcome, u16, Cause);
 
 impl Row {
-    fn refuses(&self, kind: Kind) -> bool
-        ensures { result ≡ refuses (kind_number kind) (row_of self.now) }
+    #[tactic(auto, using(crate::proofs::Table::names_kind))]
+    fn names(&self, kind: Kind) -> bool
+        ensures { result ≡ among (kind_number kind) (kinds_in self.now.1) }
     {
-        self.cause && self.kinds.contains(&kind)
+        (self.1 >> u8::from(kind)) % 2 == 1
+    }
+
+    fn refuses(&self, kind: Kind, f: &Facts, m: &Fields) -> bool
+        ensures { result ≡ refuses (kind_number kind) (row_of f.now m.now self.now) }
+    {
+        self.names(kind) && self.2.holds(f, m)
     }
 }
 
-// A row, in the order of the table's columns.
-fn check(outcome: Outcome, kinds: &'static [Kind], cause: bool) -> Row
-    ensures { row_of result ≡ check (outcome_code outcome) outcome (map kind_number kinds.now) cause }
-{
-    Row {
-        outcome,
-        kinds,
-        cause,
-    }
-}
+// The table of specs/Checks.antt, row by row.
+const CHECKS: [Row; 19] = [
+    Row(MemoryFull, REMEMBERED, Cause::NoRowForAnswer),
+    Row(UnknownXid, KNOWING, Cause::NoSuchPurchase),
+    Row(PiAuthMismatch, NAMING, Cause::OtherCourse),
+    Row(PiAuthMismatch, AUTH_REQ, Cause::OtherCard),
+    Row(InDoubt, MOVING, Cause::HasDoubt),
+    Row(PiPreviouslyUsed, AUTH_REQ, Cause::SomeAuthorised),
+    Row(PurchasesFull, AUTH_REQ, Cause::NoRowForPurchase),
+    Row(NothingAuthorised, BEFORE_CAPTURE, Cause::NoneAuthorised),
+    Row(DuplicateRequest, BEFORE_CAPTURE, Cause::SomeCaptured),
+    Row(NothingCaptured, AFTER_CAPTURE, Cause::NoneCaptured),
+    Row(AmountOutOfBounds, AUTH_REV_REQ, Cause::NotBelowAuthorised),
+    Row(AmountOutOfBounds, CAP_REQ, Cause::AboveAuthorised),
+    Row(AmountOutOfBounds, CRED_REQ, Cause::AboveUncredited),
+    Row(AmountOutOfBounds, CRED_REV_REQ, Cause::AboveCredited),
+    Row(BatchUnknown, BOOKING, Cause::NoSuchBatch),
+    Row(BatchClosed, BOOKING, Cause::ClosedBatch),
+    Row(NotReversible, CAP_REV_REQ, Cause::OtherBatchOrCredited),
+    Row(BatchNumberUsed, BATCH_OPEN, Cause::BatchExists),
+    Row(BatchesFull, BATCH_OPEN, Cause::NoRowForBatch),
+];
 
-// The table, row by row as the rules state it.
-// A purchase or a batch that is not there is read as a row of zeros, as in the table of specs/Checks.antt.
-fn book_checks(f: &Facts, m: &Fields) -> [Row; 19]
-    ensures { map row_of result ≡ book_checks f.now m.now }
+// The outcome of the first row that refuses a message of this kind; no later row is looked at.
+fn first_refusal(rows: &[Row], kind: Kind, f: &Facts, m: &Fields) -> Option<Outcome>
+    ensures { result ≡ refusal (kind_number kind) (map (row_of f.now m.now) rows.now) }
 {
-    let p = purchase_or_none(f.purchase);
-    let b = f.batch.unwrap_or(NO_BATCH);
-    let known = f.purchase.is_some();
-    [
-        check(MemoryFull, REMEMBERED, f.answers >= ANSWERS),
-        check(UnknownXid, KNOWING, !known),
-        check(PiAuthMismatch, NAMING, known && p.course != m.course),
-        check(PiAuthMismatch, &[AuthReq], known && p.card != m.card),
-        check(InDoubt, MOVING, p.doubt.is_some()),
-        check(PiPreviouslyUsed, &[AuthReq], p.authorised > 0),
-        check(
-            PurchasesFull,
-            &[AuthReq],
-            f.purchases >= PURCHASES && !known,
-        ),
-        check(NothingAuthorised, &[AuthRevReq, CapReq], p.authorised == 0),
-        check(DuplicateRequest, &[AuthRevReq, CapReq], p.captured > 0),
-        check(NothingCaptured, AFTER_CAPTURE, p.captured == 0),
-        check(AmountOutOfBounds, &[AuthRevReq], m.amount >= p.authorised),
-        check(AmountOutOfBounds, &[CapReq], m.amount > p.authorised),
-        check(AmountOutOfBounds, &[CredReq], m.amount > uncredited(&p)),
-        check(AmountOutOfBounds, &[CredRevReq], m.amount > p.credited),
-        check(BatchUnknown, BOOKING, f.batch.is_none()),
-        check(BatchClosed, BOOKING, b.closed),
-        check(
-            NotReversible,
-            &[CapRevReq],
-            p.batch != m.batch || p.credited > 0,
-        ),
-        check(BatchNumberUsed, &[BatchOpen], f.batch.is_some()),
-        check(BatchesFull, &[BatchOpen], f.batches >= BATCHES),
-    ]
-}
-
-// The first check from 9 on that refuses a message of this kind.
-pub fn book_refusal(kind: Kind, f: &Facts, m: &Fields) -> Option<Outcome>
-    ensures { result ≡ refusal (kind_number kind) (book_checks f.now m.now) }
-{
-    let rows = book_checks(f, m);
     rows.iter()
-        .find(|row| row.refuses(kind))
-        .map(|row| row.outcome)
+        .find(|row| row.refuses(kind, f, m))
+        .map(|row| row.0)
+}
+
+/// The first check from 9 on that refuses a message of this kind (docs/rules.md, "The checks").
+pub fn book_refusal(kind: Kind, f: &Facts, m: &Fields) -> Option<Outcome>
+    ensures value { result ≡ refusal (kind_number kind) (book_checks f.now m.now) }
+    ensures numbered { Numbered }
+{
+    first_refusal(&CHECKS, kind, f, m)
 }

@@ -1,4 +1,4 @@
-// All that the checks from 9 on look at beside the message: how many rows there are, and the rows that it finds.
+//! All that the checks from 9 on look at beside the message: how many rows there are, and the rows that it finds.
 use crate::batch::Batch;
 use crate::purchase::Purchase;
 

@@ -1,4 +1,4 @@
-// An answer that is remembered with all fields of its message.
+//! An answer that is remembered with all fields of its message.
 ghost use Rattle.std.specs.Prelude.{◌≡◌};
 ghost use Rattle.rules.specs.Ledger.{of_request};
 
@@ -12,7 +12,7 @@ pub struct Remembered {
     pub answer: Performed,
 }
 
-// A remembered answer is looked for by course and request number.
+/// What a remembered answer is looked for by: course and request number.
 #[derive(Clone, Copy, PartialEq, Eq, Debug)]
 pub struct RequestKey {
     pub course: u32,
@@ -21,7 +21,6 @@ pub struct RequestKey {
 
 impl RequestKey {
     /// The key under which a message's answer is remembered.
-    // by a name and not by From: a message is no key in another form
     pub fn of(m: &Fields) -> RequestKey
         ensures { result ≡ record { course = m.now.course; request = m.now.request } }
     {
@@ -38,6 +37,6 @@ impl Keyed for Remembered {
     ghost same = { λ r key. of_request key.course key.request r };
 
     fn has(&self, key: &RequestKey) -> bool {
-        RequestKey::of(&self.fields) == *key
+        self.fields.request == key.request && self.fields.course == key.course
     }
 }

@@ -1,16 +1,16 @@
 -- The decimal digits of a card number, written from the last to the first.
-use Rattle.std.proofs.Common.{◌≡◌, ℕ, zero, suc, ◌+◌, ◌-◌, ◌*◌, ◌/◌, ◌%◌, ◌^◌, ◌<◌, ◌≤◌, cond, Option, Some, None, List, [], ◌∷◌, ◌++◌, length, get_or, take, drop, set, replicate, sym, refl, ap, ◌∙◌, ⊎_elim, pow-suc, add-one, arith, length-set}
+use Rattle.std.proofs.Common.{◌≡◌, ℕ, zero, suc, ◌+◌, ◌-◌, ◌*◌, ◌/◌, ◌%◌, ◌^◌, ◌<◌, ◌≤◌, ◌&&◌, leb, Option, Some, None, List, [], ◌∷◌, ◌++◌, length, get_or, take, drop, set, replicate, sym, refl, ap, ◌∙◌, ⊎_elim, pow-suc, add-one, arith, length-set}
 use lib.Arith.{digits_div, digits_mod}
 use native.Mathlib.Nat.{pow-le-pow_right}
 use lib.ListN.{length-replicate}
 use Rattle.std.specs.Int.Digits.{digits_of, number_from_digits as number, AllBelowBase}
-use Rattle.std.proofs.lemmas.Int.Digits.{digits_of_step, length-digits_of_step, length-digits_of-le, all_below_base_digits_of, number_digits_of, number_lt, number_push, number_after_ge}
+use Rattle.std.proofs.lemmas.Int.Digits.{digits_of_step, length-digits_of_step, length-digits_of-le, all_below_base_digits_of, number_digits_of, number_lt, number_push, number_after_ge, first_digits_of}
 use Rattle.std.proofs.ByRecursion.{All-append, All-weaker, All-get_or, All-take}
 use Rattle.std.proofs.lemmas.List.{append_assoc, drop-set, drop-replicate, nil_from_length, length-take-le, get_or-take}
-use Rattle.std.proofs.lemmas.Bool.{cases_lt}
+use Rattle.std.proofs.lemmas.Bool.{cases_lt, lt-ltb}
+use Rattle.std.proofs.Math.Bool.{and-true}
 use Rattle.std.specs.Option.{IfNone, IfSome, MatchOption}
-use Rattle.wire.specs.Card.{digits_in, well_filled, card_shaped, filled}
-use Rattle.wire.proofs.Halves.{found_filled}
+use Rattle.wire.specs.Card.{card_shaped, filled}
 use Rattle.wire.proofs.Numbers.{ends}
 
 -- a number between two powers of ten has one digit more than the lower power says
@@ -28,10 +28,6 @@ digits_counted n k least most =
 pub digits_counted_or_none : (n : ℕ) (power : Option ℕ) (count : ℕ) (Told : ℕ → Type 0) → IfNone power (n ≡ 0) → IfSome power (λ k. 10 ^ k ≤ n) → IfSome power (λ k. n < 10 * 10 ^ k) → MatchOption power (count ≡ 0) Told → ((k : ℕ) → Told k → count ≡ k + 1) → count ≡ length (digits_of 10 n)
 digits_counted_or_none n None count Told none least most is next = is ∙ ap (λ m. length (digits_of 10 m)) (sym none)
 digits_counted_or_none n (Some k) count Told none least most is next = next k is ∙ digits_counted n k least most
-
--- a number of 64 bits has at most twenty digits
-pub digits_few : (n : ℕ) → n < 2 ^ 64 → length (digits_of 10 n) ≤ 20
-digits_few n small = length-digits_of-le 10 20 n (omega arith) (omega arith)
 
 -- a number with digits is not 0
 pub digits_some : (n : ℕ) → 0 < length (digits_of 10 n) → 0 < n
@@ -91,9 +87,13 @@ filled_under n =
     (All-weaker (λ d. d < 10) (λ h. h < 16) (λ d digit. omega arith) (digits_of 10 n) (all_below_base_digits_of 10 n (omega arith)))
     (fill_under (20 - length (digits_of 10 n)))
 
--- looking for a card's digits in the halves that a number was filled into finds its own, where they are shaped as a card's
-pub found_in_number : (n : ℕ) (all : List ℕ) (found : Option (List ℕ)) → all ≡ filled (digits_of 10 n) → found ≡ cond (well_filled all) (Some (digits_in all)) None → found ≡ cond (card_shaped (digits_of 10 n)) (Some (digits_of 10 n)) None
-found_in_number n all found are told = found_filled (digits_of 10 n) all found (all_below_base_digits_of 10 n (omega arith)) are told
+-- the first digit of a number is not 0, so that its digits are shaped as a card's where there are as many
+pub shaped_counted : (n : ℕ) → card_shaped (digits_of 10 n) ≡ (leb 13 (length (digits_of 10 n)) && leb (length (digits_of 10 n)) 19)
+shaped_counted zero = refl
+shaped_counted (suc n) =
+    let l = length (digits_of 10 (suc n)) in
+    ap (λ t. leb 13 l && (leb l 19 && t)) (lt-ltb 0 (get_or (digits_of 10 (suc n)) 0 0) (first_digits_of 10 (suc n) (omega arith) (omega arith)))
+    ∙ ap (λ t. leb 13 l && t) (and-true (leb l 19))
 
 -- a number whose first digit is not 0 is not 0
 number_above : (ds : List ℕ) → 0 < get_or ds 0 0 → 0 < number 10 ds

@@ -6,30 +6,18 @@ use Rattle.wire.specs.Checks.{first_failing, unless}
 use Rattle.fields.specs.Field.{stands}
 use Rattle.fields.specs.Kind.{kind_number, map_of, amount_allowed}
 use Rattle.wire.specs.Layout.{piece_in, parts_in}
-use Rattle.wire.specs.Opening.{map_in, kind_in, opening_checks, Framed, message_in, opening}
+use Rattle.wire.specs.Opening.{map_in, kind_in, opening_checks, Framed, fields_with, message_in, opening}
 use Rattle.wire.specs.Writing.{trimmed, writing_checks}
 use Rattle.fields.specs.declared.kind.Kind.{Kind}
 use Rattle.wire.specs.declared.message.Fields.{Fields}
 use Rattle.wire.specs.declared.parts.Parts.{Parts}
 use Rattle.wire.proofs.Chains.{after_passed, before_failed, passes}
 use Rattle.wire.proofs.Halves.{found_one}
-use Rattle.wire.proofs.Opens.{kind_read, passed, trimmed_is, accepted_is}
+use Rattle.wire.proofs.Opens.{passed, trimmed_is, accepted_is}
 use Rattle.wire.proofs.Pieces.{piece_lacking}
 
 pub refused_frame : (b : List ℕ) (n : ℕ) → first_failing (take 4 (opening_checks b)) ≡ Some n → opening b ≡ Err n
 refused_frame b n failed = ap (λ o. unless o (message_in b)) (before_failed (take 4 (opening_checks b)) (drop 4 (opening_checks b)) n failed)
-
--- the fields, with the card's number found
-abbrev pub fields_with : Parts → ℕ → Fields
-fields_with p card = record {
-  kind = p.kind;
-  request = p.request;
-  course = p.course;
-  xid = p.xid;
-  card = card;
-  amount = p.amount;
-  batch = p.batch;
-}
 
 module _ (b : List ℕ) (k : Kind) (f : Framed b k) (p : Parts) (read : p ≡ parts_in (map_in b) b) where
   abbrev card_part : List ℕ
@@ -55,26 +43,22 @@ module _ (b : List ℕ) (k : Kind) (f : Framed b k) (p : Parts) (read : p ≡ pa
     lacking true e = refl
     lacking false e = sym (ap card_number (piece_lacking (map_in b) b 4 e))
 
-    -- the number that was found is the message's, 0 too where the kind has no card
-    pub fields_are : fields_with p card ≡ message_in b
-    fields_are = ap (λ q. fields_with q card) read ∙ ap (fields_with (parts_in (map_in b) b)) (right.1 ∙ lacking (stands (map_in b) 4) refl)
-
     own_amount : not (amount_allowed (kind_in b) (number_from_digits 256 (piece_in (map_in b) b 5))) ≡ not (amount_allowed (kind_number k) p.amount)
     own_amount = ap (λ n. not (amount_allowed n (number_from_digits 256 (piece_in (map_in b) b 5)))) (sym f.numbered) ∙ ap (λ q. not (amount_allowed (kind_number k) q.amount)) (sym read)
 
-    module _ (allows : Bool) (told : allows ≡ amount_allowed (kind_number k) p.amount) where
-      pub none_refused : allows ≡ true → first_failing (opening_checks b) ≡ None
+    module _ (allows : Bool) (told : allows ≡ amount_allowed (kind_number k) p.amount) (m : Fields) (made : m ≡ fields_with p card) where
+      -- the number that was found is the message's, 0 too where the kind has no card
+      fields_are : m ≡ message_in b
+      fields_are = made ∙ ap (λ q. fields_with q card) read ∙ ap (fields_with (parts_in (map_in b) b)) (right.1 ∙ lacking (stands (map_in b) 4) refl)
+
+      none_refused : allows ≡ true → first_failing (opening_checks b) ≡ None
       none_refused within = at_amount ∙ passes 7 _ [] (own_amount ∙ ap not (sym told ∙ within))
 
-      pub opened_is : allows ≡ true → Ok (fields_with p card) ≡ opening b
+      pub opened_is : allows ≡ true → Ok m ≡ opening b
       opened_is within = ap Ok fields_are ∙ sym (ap (λ o. unless o (message_in b)) (none_refused within))
 
       -- so it is trimmed, and writing it is refused by nothing
-      pub well_formed : allows ≡ true → (trimmed (fields_with p card) ≡ fields_with p card) × (is_some (first_failing (writing_checks (fields_with p card))) ≡ false)
+      pub well_formed : allows ≡ true → (trimmed m ≡ m) × (is_some (first_failing (writing_checks m)) ≡ false)
       well_formed within =
           let ok = passed b (none_refused within) in
-          (ap trimmed fields_are ∙ trimmed_is b ok ∙ sym fields_are, ap (λ m. is_some (first_failing (writing_checks m))) fields_are ∙ ap is_some (accepted_is b ok))
-
-      -- and its number is the kind's
-      pub own_kind : allows ≡ true → kind_number k ≡ (fields_with p card).kind
-      own_kind within = f.numbered ∙ sym (kind_read b (passed b (none_refused within))) ∙ sym (ap (λ m. m.kind) fields_are)
+          (ap trimmed fields_are ∙ trimmed_is b ok ∙ sym fields_are, ap (λ x. is_some (first_failing (writing_checks x))) fields_are ∙ ap is_some (accepted_is b ok))

@@ -1,8 +1,10 @@
 -- The halves of a card's ten bytes: split, counted and put together again.
-use Rattle.std.proofs.Common.{◌≡◌, ℕ, zero, suc, ◌+◌, ◌-◌, ◌*◌, ◌/◌, ◌%◌, ◌<◌, ◌≤◌, Bool, true, false, cond, not, ◌&&◌, ltb, List, [], ◌∷◌, ◌++◌, length, get_or, take, drop, set, replicate, Some, None, Option, sym, refl, ap, ◌∙◌, arith, length-set}
-use Rattle.std.proofs.Math.Bool.{and-true}
+use Rattle.std.proofs.Common.{◌≡◌, ℕ, zero, suc, ◌+◌, ◌-◌, ◌*◌, ◌/◌, ◌%◌, ◌<◌, ◌≤◌, Bool, true, false, cond, not, ◌&&◌, eqb, ltb, List, [], ◌∷◌, ◌++◌, length, get_or, take, drop, set, replicate, Some, None, sym, refl, ap, ◌∙◌, arith, length-set}
+use Rattle.std.proofs.Math.Bool.{and-true, and-false}
+use Rattle.std.specs.List.{count_by}
+use Rattle.std.proofs.lemmas.List.Recursion.{is_count_by}
 use Rattle.std.proofs.lemmas.List.{append_assoc, take_more, take_more_set, drop_at}
-use Rattle.std.proofs.lemmas.Bool.{cond-true, cond_both, lt-ltb, ltb-true}
+use Rattle.std.proofs.lemmas.Bool.{cond-true, cond_both, lt-ltb, ltb-true, and_parts, eqb-true}
 use Rattle.std.specs.Int.Digits.{AllBelowBase}
 use Rattle.wire.specs.Card.{halves, digits_in, only_fill, card_shaped, well_filled, pairs, filled}
 
@@ -42,6 +44,73 @@ digits_under [] = tt
 digits_under (h ∷ hs) =
     cond_both (ltb h 10) (h ∷ digits_in hs) [] (AllBelowBase 10) (λ digit. (ltb-true h 10 digit, digits_under hs)) (λ _. tt)
 
+-- how many of the halves are digits, wherever they stand
+abbrev pub digit_count : List ℕ → ℕ
+digit_count [] = 0
+digit_count (h ∷ hs) = cond (ltb h 10) (suc (digit_count hs)) (digit_count hs)
+
+pub counts_digits : (hs : List ℕ) → digit_count hs ≡ count_by (λ h. ltb h 10) hs
+counts_digits hs =
+    is_count_by digit_count (λ h. ltb h 10) refl
+    (λ x xs. elim (ltb x 10) as (λ t. cond t (suc (digit_count xs)) (digit_count xs) ≡ cond t (1 + digit_count xs) (digit_count xs)) [ true ↦ omega arith | false ↦ refl ])
+    hs
+
+none_in_fill : (hs : List ℕ) → only_fill hs ≡ true → digit_count hs ≡ 0
+none_in_fill [] fill = refl
+none_in_fill (h ∷ hs) fill =
+    let both = and_parts (eqb h 15) (only_fill hs) fill in
+    ap (λ x. digit_count (x ∷ hs)) (eqb-true h 15 both.0) ∙ none_in_fill hs both.1
+
+-- with only F past so many halves, no more of them are digits
+few_before : (k : ℕ) (hs : List ℕ) → only_fill (drop k hs) ≡ true → digit_count hs ≤ k
+few_before zero hs fill = omega (arith, none_in_fill hs fill)
+few_before (suc k) [] fill = omega arith
+few_before (suc k) (h ∷ hs) fill =
+    cond_both (ltb h 10) (suc (digit_count hs)) (digit_count hs) (λ n. n ≤ suc k) (λ _. omega (arith, few_before k hs fill)) (λ _. omega (arith, few_before k hs fill))
+
+none_first : (c h : ℕ) (hs : List ℕ) → c ≡ digit_count hs → only_fill (drop c (h ∷ hs)) ≡ true → 0 ≡ c
+none_first zero h hs is fill = refl
+none_first (suc c) h hs is fill = absurd (omega (arith, few_before c hs fill))
+
+-- with only F past as many halves as are digits, the digits come first
+digits_first : (hs : List ℕ) → only_fill (drop (digit_count hs) hs) ≡ true → length (digits_in hs) ≡ digit_count hs
+digits_first [] fill = refl
+digits_first (h ∷ hs) fill =
+    elim (ltb h 10) as (λ t. only_fill (drop (cond t (suc (digit_count hs)) (digit_count hs)) (h ∷ hs)) ≡ true → length (cond t (h ∷ digits_in hs) []) ≡ cond t (suc (digit_count hs)) (digit_count hs))
+    [ true ↦ λ f. ap suc (digits_first hs f) | false ↦ λ f. none_first (digit_count hs) h hs refl f ] fill
+
+-- and with only F past the first digits, no others are digits
+digits_alone : (hs : List ℕ) → only_fill (drop (length (digits_in hs)) hs) ≡ true → length (digits_in hs) ≡ digit_count hs
+digits_alone [] fill = refl
+digits_alone (h ∷ hs) fill =
+    elim (ltb h 10) as (λ t. only_fill (drop (length (cond t (h ∷ digits_in hs) [])) (h ∷ hs)) ≡ true → length (cond t (h ∷ digits_in hs) []) ≡ cond t (suc (digit_count hs)) (digit_count hs))
+    [ true ↦ λ f. ap suc (digits_alone hs f) | false ↦ λ f. sym (none_in_fill hs (and_parts (eqb h 15) (only_fill hs) f).1) ] fill
+
+module _ (hs : List ℕ) where
+  abbrev count : ℕ
+  count = digit_count hs
+
+  abbrev front : List ℕ
+  front = take count hs
+
+  pub front_digits : only_fill (drop count hs) ≡ true → digits_in hs ≡ front
+  front_digits fill = digits_front hs ∙ ap (λ n. take n hs) (digits_first hs fill)
+
+  as_counted : length (digits_in hs) ≡ count → well_filled hs ≡ (card_shaped front && only_fill (drop count hs))
+  as_counted same =
+      ap (λ ds. card_shaped ds && only_fill (drop (length (digits_in hs)) hs)) (digits_front hs ∙ ap (λ n. take n hs) same)
+      ∙ ap (λ n. card_shaped front && only_fill (drop n hs)) same
+
+  decided : (x : Bool) → only_fill (drop count hs) ≡ x → (y : Bool) → only_fill (drop (length (digits_in hs)) hs) ≡ y → well_filled hs ≡ (card_shaped front && only_fill (drop count hs))
+  decided true here y there = as_counted (digits_first hs here)
+  decided false here true there = as_counted (digits_alone hs there)
+  decided false here false there =
+      ap (λ t. card_shaped (digits_in hs) && t) there ∙ and-false (card_shaped (digits_in hs))
+      ∙ sym (ap (λ t. card_shaped front && t) here ∙ and-false (card_shaped front))
+
+  pub counted_filled : well_filled hs ≡ (card_shaped front && only_fill (drop count hs))
+  counted_filled = decided (only_fill (drop count hs)) refl (only_fill (drop (length (digits_in hs)) hs)) refl
+
 -- digits filled up with F are found again
 is_fill : (n : ℕ) → only_fill (replicate n 15) ≡ true
 is_fill zero = refl
@@ -64,14 +133,6 @@ shaped_filled ds under =
     ap (λ t. card_shaped (digits_in (filled ds)) && t) fill
     ∙ and-true (card_shaped (digits_in (filled ds)))
     ∙ ap card_shaped (digits_filled ds under)
-
--- so looking for a card's digits there finds just these, where they are shaped as a card's
-pub found_filled : (ds all : List ℕ) (found : Option (List ℕ)) → AllBelowBase 10 ds → all ≡ filled ds → found ≡ cond (well_filled all) (Some (digits_in all)) None → found ≡ cond (card_shaped ds) (Some ds) None
-found_filled ds all found under are told =
-    told
-    ∙ ap (λ hs. cond (well_filled hs) (Some (digits_in hs)) None) are
-    ∙ ap (λ t. cond t (Some (digits_in (filled ds))) None) (shaped_filled ds under)
-    ∙ ap (λ xs. cond (card_shaped ds) (Some xs) None) (digits_filled ds under)
 
 -- something was found: either nothing was asked for, or it is what was asked for and is right
 pub found_one : {A : Type 0} (asked is_right : Bool) (value none found : A) → Some found ≡ cond asked (cond is_right (Some value) None) (Some none) →

@@ -10,4 +10,5 @@ pub mod Opens
 pub mod Packing
 pub mod Pieces
 pub mod Reading
+pub mod Spread
 pub mod Trips

@@ -1,7 +1,7 @@
 -- Eight fields handed out one after the other, each leaving the message and the kind as they were.
 use Rattle.std.proofs.Common.{◌≡◌, ℕ, List, refl, ap, ◌∙◌}
 use lib.Count.{ones}
-use Rattle.fields.specs.Field.{fields_to}
+use Rattle.fields.specs.Field.{fields_from}
 use Rattle.fields.specs.Kind.{kind_number, map_of}
 use Rattle.fields.specs.declared.kind.Kind.{Kind}
 use Rattle.fields.specs.declared.kind.Kind.TheVariants.{AuthReq, AuthRevReq, CapReq, CapRevReq, CredReq, CredRevReq, BatchOpen, BatchClose, Inquiry}
@@ -14,15 +14,15 @@ as_first F k k₀ m m₀ same = ap (λ x. F (map_of (kind_number x)) m) same.1 �
 pub still : {k₀ k₁ k₂ : Kind} {m₀ m₁ m₂ : List ℕ} → (m₂ ≡ m₁) × (k₂ ≡ k₁) → (m₁ ≡ m₀) × (k₁ ≡ k₀) → (m₂ ≡ m₀) × (k₂ ≡ k₀)
 still more before = (more.0 ∙ before.0, more.1 ∙ before.1)
 
--- a kind's map has no bit beyond the eighth, so its ones are the first eight fields
-pub ones_of_kind : (k : Kind) → fields_to (map_of (kind_number k)) 8 ≡ ones (map_of (kind_number k))
+-- a kind's map has as many fields as ones, and none of them past the eighth
+pub fields_of_kind : (k : Kind) → (fields_from (map_of (kind_number k)) 0 ≡ ones (map_of (kind_number k))) × (fields_from (map_of (kind_number k)) 8 ≡ 0)
 unfolding ones
-ones_of_kind AuthReq = refl
-ones_of_kind AuthRevReq = refl
-ones_of_kind CapReq = refl
-ones_of_kind CapRevReq = refl
-ones_of_kind CredReq = refl
-ones_of_kind CredRevReq = refl
-ones_of_kind BatchOpen = refl
-ones_of_kind BatchClose = refl
-ones_of_kind Inquiry = refl
+fields_of_kind AuthReq = (refl, refl)
+fields_of_kind AuthRevReq = (refl, refl)
+fields_of_kind CapReq = (refl, refl)
+fields_of_kind CapRevReq = (refl, refl)
+fields_of_kind CredReq = (refl, refl)
+fields_of_kind CredRevReq = (refl, refl)
+fields_of_kind BatchOpen = (refl, refl)
+fields_of_kind BatchClose = (refl, refl)
+fields_of_kind Inquiry = (refl, refl)

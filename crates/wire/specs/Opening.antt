@@ -45,20 +45,20 @@ pub record Framed (bytes : List ℕ) (kind : Kind) : Type 0 where
   pub long : length bytes ≡ length_of (kind_number kind)
   pub passed : up_to 4 bytes ≡ None
 
--- the fields of a message, the card by its number
-abbrev pub message_of : Parts → Fields
-message_of p = record {
+-- the fields of a message, the card by this number
+abbrev pub fields_with : Parts → ℕ → Fields
+fields_with p card = record {
   kind = p.kind;
   request = p.request;
   course = p.course;
   xid = p.xid;
-  card = card_number p.card;
+  card = card;
   amount = p.amount;
   batch = p.batch;
 }
 
 abbrev pub message_in : List ℕ → Fields
-message_in bytes = message_of (parts_in (map_in bytes) bytes)
+message_in bytes = let p = parts_in (map_in bytes) bytes in fields_with p (card_number p.card)
 
 abbrev pub opening : List ℕ → Result Fields ℕ
 opening bytes = unless (first_failing (opening_checks bytes)) (message_in bytes)

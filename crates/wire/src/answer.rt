@@ -11,20 +11,24 @@ use fields::refusal::Refusal;
 // The map of the full answer: fields 1, 2, 3, 6 and 8.
 const FULL: Map = Map { bits: 0xE500 };
 
-// How many bytes the full answer has.
+/// How many bytes the full answer has.
 pub const FULL_LENGTH: usize = 24;
 
 // The map of the short answer: field 8 alone.
 const SHORT: Map = Map { bits: 0x0100 };
 
+/// The gateway's answer to a message that it opened. Any kind and any code is written as it is given.
 #[derive(Clone, Copy, PartialEq, Eq, Debug)]
 pub struct Answer {
-    // this and the code are numbers and no enums: any of them is written as it is given, and none is refused
+    /// the kind of the message that is answered
     pub kind: u8,
+    /// the request number of that message
     pub request: u64,
+    /// its course
     pub course: u32,
-    // in pence, in two's complement where it is a batch total
+    /// in pence, in two's complement where it is a batch total
     pub amount: u64,
+    /// 0, or the number of a refusal
     pub code: u8,
 }
 
@@ -32,7 +36,7 @@ impl From<&Answer> for Parts {
     ghost from_gives = { λ answer parts. parts ≡ answer_parts answer.now };
 
     fn from(answer: &Answer) -> Parts {
-        // Written out: an answer has a code, and neither XID, card nor batch.
+        // An answer has neither XID, card nor batch.
         Parts {
             kind: answer.kind,
             request: answer.request,
@@ -46,8 +50,8 @@ impl From<&Answer> for Parts {
     }
 }
 
-// Writes a full answer into the front of a buffer and answers its length; a buffer that is too short is left alone.
-// The length and no slice: a slice of the lent buffer would keep the caller from the buffer.
+/// Writes a full answer into the front of a buffer and answers its length. A buffer under 24 bytes is refused with
+/// `Refusal::ShortBuffer` and left as it was.
 pub fn write_full(answer: &Answer, buffer: &mut [u8]) -> Result<usize, Refusal>
     ensures value { numbered result ≡ length_written (full_into (length buffer.old) answer.now) }
     ensures after { buffer.new ≡ over_front (full_into (length buffer.old) answer.now) buffer.old }
@@ -56,8 +60,8 @@ pub fn write_full(answer: &Answer, buffer: &mut [u8]) -> Result<usize, Refusal>
     lay(FULL, &Parts::from(answer), buffer)
 }
 
-// Writes a short answer likewise, and answers its length and no slice for the same reason. Any code is written, so it is
-// a byte and no enum.
+/// Writes a short answer, which has this code alone, into the front of a buffer and answers its length. A buffer under
+/// 3 bytes is refused with `Refusal::ShortBuffer` and left as it was.
 pub fn write_short(code: u8, buffer: &mut [u8]) -> Result<usize, Refusal>
     ensures value { numbered result ≡ length_written (short_into (length buffer.old) code) }
     ensures after { buffer.new ≡ over_front (short_into (length buffer.old) code) buffer.old }

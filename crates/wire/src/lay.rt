@@ -16,8 +16,7 @@ fn put_map(buffer: &mut [u8], map: Map)
     buffer[0..2].copy_from_slice(&map.bits.to_be_bytes());
 }
 
-// Writes a field at its place, if the map has it.
-// The map and the buffer stay apart: a struct of both would promise in each method that it holds the same buffer.
+// Writes a field at its place, as wide as the table says, if the map has it.
 fn put(buffer: &mut [u8], map: Map, field: Field, bytes: &[u8])
     requires room { length_under map.bits ≤ length buffer.old }
     requires wide { length bytes.now ≡ width (bit_of field) }
@@ -25,11 +24,13 @@ fn put(buffer: &mut [u8], map: Map, field: Field, bytes: &[u8])
 {
     if map.has(field) {
         let at = map.place(field);
-        buffer[at..at + bytes.len()].copy_from_slice(bytes);
+        buffer[at..at + field.width()].copy_from_slice(bytes);
     }
 }
 
-// Lays out the map and the fields that stand in it.
+// Lays out the map and the fields that stand in it. Where the map is known when this is compiled, so are the places: hence
+// the hints.
+#[inline(always)]
 fn fill(map: Map, parts: &Parts, buffer: &mut [u8])
     requires { length_under map.bits ≤ length buffer.old }
     ensures long { length (laid map.bits parts.now) ≡ length_under map.bits }
@@ -47,7 +48,7 @@ fn fill(map: Map, parts: &Parts, buffer: &mut [u8])
 }
 
 // Lays out a message or an answer and answers how long it is; nothing is written to a buffer that is too short.
-// A length and no slice: the buffer is lent, and a slice of it would keep the caller from it.
+#[inline(always)]
 pub fn lay(map: Map, parts: &Parts, buffer: &mut [u8]) -> Result<usize, Refusal>
     ensures value { numbered result ≡ length_written (laying_into (length buffer.old) map.bits parts.now) }
     ensures after { buffer.new ≡ over_front (laying_into (length buffer.old) map.bits parts.now) buffer.old }

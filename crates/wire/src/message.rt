@@ -1,19 +1,25 @@
 // The fields of a message.
+/// The name of a purchase: 20 bytes of any values.
 pub type Xid = [u8; 20];
 
+/// A card by its number, which its digits write in decimal.
 pub type Card = u64;
 
-// A message before it is written: nothing is known of these numbers. Fields that the kind lacks are taken as 0.
+/// A message before it is written: nothing is known of these numbers. Fields that the kind lacks are taken as 0.
 #[derive(Clone, Copy, PartialEq, Eq, Debug)]
 pub struct Fields {
-    // a number and no `Kind`: a caller may give one that no kind has, and is refused for it
+    /// the number of the kind; writing refuses one that no kind has
     pub kind: u8,
-    // SET's RRPID, shortened
+    /// names this request of the course; SET's RRPID, shortened
     pub request: u64,
+    /// the racecourse; SET's merchant
     pub course: u32,
+    /// the purchase's name
     pub xid: Xid,
+    /// the card's number
     pub card: Card,
-    // in pence
+    /// in pence
     pub amount: u64,
+    /// the number of a batch of the course
     pub batch: u32,
 }

@@ -1,7 +1,6 @@
-// A message that has been opened. Opening alone makes one, so that nothing is performed that was not opened; it can
-// be neither copied nor cloned, so that nothing is performed twice.
-ghost use Rattle.std.specs.Prelude.{◌≡◌, ℕ, ◌<◌, ◌≤◌, false, length, is_some, slice_index};
-ghost use Rattle.fields.specs.Kind.{kind_number};
+// The message as opening gives it.
+ghost use Rattle.std.specs.Prelude.{◌≡◌, ℕ, ◌<◌, ◌≤◌, true, false, length, is_some, slice_index};
+ghost use Rattle.fields.specs.Kind.{kind_number, is_kind};
 ghost use Rattle.wire.specs.Checks.{first_failing};
 ghost use Rattle.wire.specs.Opening.{message_in, opening_checks};
 ghost use Rattle.wire.specs.Writing.{bytes_for, trimmed, writing_checks};
@@ -11,12 +10,13 @@ use fields::kind::Kind;
 
 pub mod opening;
 
+/// A message that has been opened. Opening alone makes one, so that nothing is performed that was not opened; it can
+/// be neither copied nor cloned, so that nothing is performed twice.
 #[derive(Drop)]
 pub struct Opened {
-    kind: Kind,
     fields: Fields,
-    // the kind is that of the number in the fields
-    ghost numbered: { kind_number kind ≡ fields.kind },
+    // the number of its kind is one of the nine
+    ghost known: { is_kind fields.kind ≡ true },
     // the fields that the kind lacks are 0
     ghost trim: { trimmed fields ≡ fields },
     // and writing it again is refused by nothing
@@ -28,6 +28,7 @@ pub struct Opened {
 }
 
 impl Opened {
+    /// What its fields hold, 0 for each that its kind lacks.
     pub fn fields(&self) -> Fields
         ensures value { result ≡ self.now.fields }
         ensures small { result.amount ≤ 99999999 }
@@ -35,9 +36,10 @@ impl Opened {
         self.fields
     }
 
+    /// Which of the nine messages it is.
     pub fn kind(&self) -> Kind
         ensures { kind_number result ≡ self.now.fields.kind }
     {
-        self.kind
+        Kind::try_from(self.fields.kind).unwrap()
     }
 }

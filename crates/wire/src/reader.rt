@@ -1,6 +1,6 @@
 // Reads the fields of a message by place.
-ghost use Rattle.std.specs.Prelude.{◌≡◌, ◌+◌, ◌<◌, length, if◌then◌else◌, None, IfOk, IfErr, OnOk, Some, count_ones};
-ghost use Rattle.fields.specs.Field.{bit_of, width, stands};
+ghost use Rattle.std.specs.Prelude.{◌≡◌, ◌+◌, length, None, IfOk, IfErr, OnOk, Some, count_ones};
+ghost use Rattle.fields.specs.Field.{bit_of, width, fields_from};
 ghost use Rattle.fields.specs.Kind.{kind_number, map_of, length_of};
 ghost use Rattle.fields.specs.Refusal.{refusal_number};
 ghost use Rattle.wire.specs.Layout.{piece_in, parts_in};
@@ -11,13 +11,13 @@ use fields::field::{Field, Map};
 use fields::kind::Kind;
 use fields::refusal::Refusal;
 
-// The lent message, once its length is known to be its kind's.
+// The lent message, once its frame is known to be right.
 #[derive(Drop)]
 struct Reader<'a> {
     message: &'a [u8],
     kind: Kind,
-    // the fields handed out so far, counted to show that they are as many as the map has standing bits
-    read: u32,
+    // how many fields are still to be handed out
+    left: u32,
     ghost long: { length message.now ≡ length_of (kind_number kind) },
 }
 
@@ -41,9 +41,11 @@ fn map_in(message: &[u8]) -> Result<Map, Refusal>
     Ok(map)
 }
 
-// The checks of the frame: map, kind and length.
-fn frame(message: &[u8]) -> Result<Kind, Refusal>
-    ensures framed { IfOk result (Framed message.now) }
+// The checks of the frame: map, kind and length. The reader hands out as many fields as the map has standing bits.
+fn frame(message: &[u8]) -> Result<Reader<'_>, Refusal>
+    ensures framed { IfOk result (λ reader. Framed message.now reader.kind) }
+    ensures whole { IfOk result (λ reader. reader.message.now ≡ message.now) }
+    ensures counted { IfOk result (λ reader. reader.left ≡ count_ones (map_in message.now)) }
     ensures refused { IfErr result (λ e. up_to 4 message.now ≡ Some (refusal_number e)) }
 {
     let map = map_in(message)?;
@@ -54,34 +56,37 @@ fn frame(message: &[u8]) -> Result<Kind, Refusal>
     if message.len() != kind.length() {
         return Err(Refusal::WrongLength);
     }
-    Ok(kind)
+    Ok(Reader {
+        message,
+        kind,
+        left: map.count(),
+    })
 }
 
 impl Reader<'_> {
-    // The bytes of a field, zeros where the kind lacks it.
+    // The bytes of a field, as many as the table says; zeros where the kind lacks it.
     fn field<const N: usize>(&mut self, field: Field) -> [u8; N]
-        requires few { self.old.read < 16 }
+        requires left { self.old.left ≡ fields_from (map_of (kind_number self.old.kind)) (bit_of field) }
         requires wide { N ≡ width (bit_of field) }
         ensures value { result ≡ piece_in (map_of (kind_number self.old.kind)) self.old.message.now (bit_of field) }
-        ensures counted { self.new.read ≡ self.old.read + (if stands (map_of (kind_number self.old.kind)) (bit_of field) then 1 else 0) }
+        ensures left { self.new.left ≡ fields_from (map_of (kind_number self.old.kind)) (bit_of field + 1) }
         ensures same { (self.new.message.now ≡ self.old.message.now) × (self.new.kind ≡ self.old.kind) }
     {
+        let mut bytes = [0; N];
         let map = self.kind.map();
-        if !map.has(field) {
-            return [0; N];
+        if map.has(field) {
+            self.left -= 1;
+            let at = map.place(field);
+            bytes.copy_from_slice(&self.message[at..at + field.width()]);
         }
-        self.read += 1;
-        match self.message[map.place(field)..].first_chunk() {
-            Some(bytes) => *bytes,
-            None => unreachable(),
-        }
+        bytes
     }
 
-    // Each field, by its place. As many are handed out as the map has standing bits.
+    // Each field, by its place, until none is left to hand out.
     fn parts(&mut self) -> Parts
-        requires { self.old.read ≡ 0 }
+        requires { self.old.left ≡ count_ones (map_of (kind_number self.old.kind)) }
         ensures value { result ≡ parts_in (map_of (kind_number self.old.kind)) self.old.message.now }
-        ensures counted { self.new.read ≡ count_ones (map_of (kind_number self.old.kind)) }
+        ensures all { self.new.left ≡ 0 }
     {
         Parts {
             kind: u8::from_be_bytes(self.field(Field::Kind)),
@@ -102,11 +107,6 @@ pub fn parts_of(message: &[u8]) -> Result<(Kind, Parts), Refusal>
     ensures parts { IfOk result (λ found. found.1 ≡ parts_in (map_in message.now) message.now) }
     ensures refused { IfErr result (λ e. up_to 4 message.now ≡ Some (refusal_number e)) }
 {
-    let kind = frame(message)?;
-    let mut reader = Reader {
-        message,
-        kind,
-        read: 0,
-    };
-    Ok((kind, reader.parts()))
+    let mut reader = frame(message)?;
+    Ok((reader.kind, reader.parts()))
 }

@@ -47,7 +47,7 @@ fn checked(fields: &Fields) -> Result<(Kind, Parts), Refusal>
     if !kind.allows(amount_of(kind, fields.amount)) {
         return Err(Refusal::AmountNotAllowed);
     }
-    // Written out: the parts have a packed card where the message has a number, and they have a code.
+    // The parts have the card packed, and the code 0.
     let parts = Parts {
         kind: fields.kind,
         request: fields.request,
@@ -61,8 +61,8 @@ fn checked(fields: &Fields) -> Result<(Kind, Parts), Refusal>
     Ok((kind, parts))
 }
 
-// Writes a message into the front of a buffer and answers its length. A refusal leaves the whole buffer.
-// The length and no slice: a slice of the lent buffer would keep the caller from the buffer.
+/// Writes a message into the front of a buffer and answers its length. A refusal leaves the whole buffer.
+#[inline(always)]
 pub fn write(fields: &Fields, buffer: &mut [u8]) -> Result<usize, Refusal>
     ensures value { numbered result ≡ length_written (writing_into (length buffer.old) fields.now) }
     ensures after { buffer.new ≡ over_front (writing_into (length buffer.old) fields.now) buffer.old }

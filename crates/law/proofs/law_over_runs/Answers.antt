@@ -1,7 +1,6 @@
-use Rattle.std.proofs.Common.{refl}
 use Rattle.law.proofs.Carrying.{own_spelling}
 use Rattle.law.proofs.Law.{law_over_runs}
 use Rattle.law.proofs.law_over_runs.Goals as goal
 
 pub returns : goal.returns
-returns c = record { count = refl; law = law_over_runs; bytes = own_spelling }
+returns c = record { law = law_over_runs; bytes = own_spelling }

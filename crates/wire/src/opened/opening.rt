@@ -1,15 +1,17 @@
 // Opening: from the bytes of a message to the message, or to the first check that fails.
-ghost use Rattle.std.specs.Prelude.{◌≡◌, length, replicate, if◌then◌else◌, Some, None};
+ghost use Rattle.std.specs.Prelude.{◌≡◌, length, replicate, if◌then◌else◌, Some, None, IfOk};
 ghost use Rattle.wire.specs.Answered.{answered};
 ghost use Rattle.wire.specs.Card.{well_packed, card_number};
 ghost use Rattle.fields.specs.Field.{stands};
 ghost use Rattle.fields.specs.Kind.{kind_number, map_of};
-ghost use Rattle.wire.specs.Opening.{opening, opening_on};
+ghost use Rattle.wire.specs.Opening.{fields_with, opening, opening_on};
 ghost use Rattle.wire.specs.RoundTrip.{OpeningInverts};
 ghost use Rattle.wire.specs.Strip.{strip_after};
+ghost use Rattle.wire.specs.Writing.{bytes_for};
 
 use super::Opened;
 use crate::message::Fields;
+use crate::parts::Parts;
 use crate::reader;
 use crate::strip::{self, STRIP, Strip};
 use fields::field::Field;
@@ -27,6 +29,21 @@ fn card_number(kind: Kind, bytes: &[u8; 10], digits: &mut [u8; STRIP]) -> Option
     }
 }
 
+// The fields of a message, the card by this number.
+fn fields_of(parts: &Parts, card: u64) -> Fields
+    ensures { result ≡ fields_with parts.now card }
+{
+    Fields {
+        kind: parts.kind,
+        request: parts.request,
+        course: parts.course,
+        xid: parts.xid,
+        card,
+        amount: parts.amount,
+        batch: parts.batch,
+    }
+}
+
 fn examine(message: &[u8], digits: &mut [u8; STRIP]) -> Result<Opened, Refusal>
     ensures { answered result ≡ opening message.now }
 {
@@ -35,20 +52,13 @@ fn examine(message: &[u8], digits: &mut [u8; STRIP]) -> Result<Opened, Refusal>
     if !kind.allows(parts.amount) {
         return Err(Refusal::AmountNotAllowed);
     }
-    // Written out: a message has a number where its parts have a packed card, and it has no code.
-    let fields = Fields {
-        kind: parts.kind,
-        request: parts.request,
-        course: parts.course,
-        xid: parts.xid,
-        card,
-        amount: parts.amount,
-        batch: parts.batch,
-    };
-    Ok(Opened { kind, fields })
+    Ok(Opened {
+        fields: fields_of(&parts, card),
+    })
 }
 
 // Opens a message. The digits of its card stand on the strip only meanwhile: on every way out the guard blanks them.
+#[inline(always)]
 fn open_on(message: &[u8], digits: &mut [u8; STRIP]) -> Result<Opened, Refusal>
     ensures value { answered result ≡ opening message.now }
     ensures after { digits.new ≡ replicate 19 0 }
@@ -57,11 +67,14 @@ fn open_on(message: &[u8], digits: &mut [u8; STRIP]) -> Result<Opened, Refusal>
     examine(message, guard.digits)
 }
 
-// Opens a message on a strip, which is left alone where it is too short.
+/// Opens a message. The digits of its card are spread on the strip meanwhile; afterwards the strip's first 19 bytes are
+/// zeros, whatever is answered. A strip under 19 bytes is refused with `Refusal::ShortBuffer` and left as it was.
+#[inline(always)]
 pub fn open(message: &[u8], strip: &mut [u8]) -> Result<Opened, Refusal>
     ensures value { answered result ≡ opening_on (length strip.old) message.now }
     ensures after { strip.new ≡ strip_after strip.old }
     ensures inverse { OpeningInverts (length strip.old) message.now (answered result) }
+    ensures own_bytes { IfOk result (λ opened. bytes_for opened.fields ≡ message.now) }
 {
     match strip.first_chunk_mut() {
         Some(digits) => open_on(message, digits),

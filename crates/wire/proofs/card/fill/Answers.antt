@@ -1,9 +1,9 @@
 use Rattle.std.proofs.Common.{arith}
-use Rattle.wire.proofs.Decimals.{digits_few, filling_none, filling_more, filling_all}
+use Rattle.wire.proofs.Decimals.{filling_none, filling_more, filling_all}
 use Rattle.wire.proofs.card.fill.Goals as goal
 
 pub loop-i-init : goal.loop-i-init
-loop-i-init c = filling_none c.args.number c.count_decimal-i.result c.count_decimal-i.ensures (omega (arith, c.count_decimal-i.ensures, digits_few c.args.number c.ranges.number.fits))
+loop-i-init c = filling_none c.args.number c.args.count c.requires.counted (omega (arith, c.requires.few))
 
 pub bounds-all-i : goal.bounds-all-i
 bounds-all-i c = omega (arith, c.loop-i.invariant.few)

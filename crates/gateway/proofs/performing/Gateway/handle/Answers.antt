@@ -45,7 +45,7 @@ returns-in-Ok g c =
     let are : Bytes b = All-from_get_or (λ x. x < 256) b 0 (λ i within. (c.type_inv.message i).fits) in
     record {
       rules = performed h (no_room buffer strip) b l host buffer strip room l' host' buffer' strip' blank m is c.kind-kind.result c.kind-kind.ensures c.answer_full.result c.answer_full.ensures.rules c.answer_full.ensures.after;
-      law = performed_law h (no_room buffer strip) b l host buffer strip room l' host' buffer' strip' blank m is are c.answer_full.result c.answer_full.ensures.law;
+      law = performed_law h (no_room buffer strip) b l host buffer strip room l' host' buffer' strip' blank m c.in-Ok.ensures.own_bytes c.answer_full.result c.answer_full.ensures.law;
     }
 
 pub returns-in-Err : goal.returns-in-Err

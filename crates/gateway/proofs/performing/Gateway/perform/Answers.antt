@@ -1,23 +1,41 @@
-use Rattle.law.specs.History.{spelling}
-use Rattle.law.proofs.Carrying.{carries, replies_of, spelling_bytes, spelling_opens}
-use Rattle.rules.specs.Rules.{call_of}
-use Rattle.gateway.specs.Performing.{reply}
+use Rattle.std.proofs.Common.{ap, ◌∙◌}
+use Rattle.rules.specs.Change.{ledger_after}
+use Rattle.gateway.proofs.Performances.{answers, carries_law, puts, reads, writes}
 use Rattle.gateway.proofs.performing.Gateway.perform.Goals as goal
 
-pub returns : goal.returns
-returns g c =
-    let o = c.args.message in
-    let m = o.fields in
+pub returns-in-Answer : goal.returns-in-Answer
+returns-in-Answer g c =
     let l = c.args.self.now.books in
-    let l' = c.go.new.self.books in
     let host = c.args.self.now.host in
-    let host' = c.go.new.self.host in
-    let h = g.H.Host in
-    let went = c.go.ensures in
-    let told = reply h host (call_of l m) in
-    record {
-      rules = record { answer = went.booked.answer; books = went.booked.books; called = went.called };
-      law =
-          carries h.held (spelling m) m (spelling_bytes m o.bytes) (spelling_opens m o.opens o.spelled) l l' host host' c.go.result told
-          (replies_of (h.put_fate host) (h.read_fate host) (h.held host) (h.held host') (h.assent host) (call_of l m) went.called.holds) went.called.same_host went.booked.answer went.booked.books;
-    }
+    let p = answers g.H.Host c.args.message.fields l host c.in-Answer.answer (c.in-Answer.ensures l c.look_up-found.ensures) in
+    record { rules = p; law = carries_law g.H.Host c.args.message l host c.in-Answer.answer l host p }
+
+pub returns-in-Commit : goal.returns-in-Commit
+returns-in-Commit g c =
+    let l = c.args.self.now.books in
+    let host = c.args.self.now.host in
+    let l' = c.commit.new.self in
+    let r = c.commit.result in
+    let p = writes g.H.Host c.args.message.fields l host c.in-Commit.change (c.in-Commit.ensures l c.look_up-found.ensures) r l' c.commit.ensures.answer c.commit.ensures.books in
+    record { rules = p; law = carries_law g.H.Host c.args.message l host r l' host p }
+
+pub returns-in-Put : goal.returns-in-Put
+returns-in-Put g c =
+    let l = c.args.self.now.books in
+    let host = c.args.self.now.host in
+    let l' = c.commit-in-Put.new.self in
+    let host' = c.put-reply.new.self in
+    let r = c.commit-in-Put.result in
+    let p =
+    puts g.H.Host c.args.message.fields l host c.in-Put.put (c.in-Put.ensures l c.look_up-found.ensures) c.put-reply.result host' c.put-reply.ensures.means c.put-reply.ensures.step r l'
+    (c.commit-in-Put.ensures.answer ∙ ap (λ change. change.answer) c.settled.ensures) (c.commit-in-Put.ensures.books ∙ ap (λ change. ledger_after change l) c.settled.ensures) in
+    record { rules = p; law = carries_law g.H.Host c.args.message l host r l' host' p }
+
+pub returns-in-Read : goal.returns-in-Read
+returns-in-Read g c =
+    let l = c.args.self.now.books in
+    let host = c.args.self.now.host in
+    let host' = c.read.new.self in
+    let r = c.from.result in
+    let p = reads g.H.Host c.args.message.fields l host c.in-Read.pair (c.in-Read.ensures l c.look_up-found.ensures) c.read.result host' c.read.ensures.means c.read.ensures.step r c.from.ensures in
+    record { rules = p; law = carries_law g.H.Host c.args.message l host r l host' p }

@@ -4,8 +4,8 @@ use Rattle.std.proofs.lemmas.Result.{err_from_is_err_and}
 use Rattle.wire.specs.Checks.{first_failing}
 use Rattle.wire.specs.Opening.{message_in, opening, opening_checks}
 use Rattle.wire.specs.RoundTrip.{Bytes}
-use Rattle.wire.proofs.Examined.{fields_with, refused_frame, opened_is, own_kind, well_formed}
-use Rattle.wire.proofs.Trips.{own_bytes, went_through}
+use Rattle.wire.proofs.Examined.{refused_frame, opened_is, well_formed}
+use Rattle.wire.proofs.Trips.{opened_kind, own_bytes, went_through}
 use Rattle.wire.proofs.opened.opening.examine.Goals as goal
 
 pub returns-in_err-kind : goal.returns-in_err-kind
@@ -17,16 +17,16 @@ pub invariant_of-result : goal.invariant_of-result
 invariant_of-result c =
     let ok = c.in_ok-kind.ensures in
     let b = c.args.message.now in
-    let m = fields_with c.in_ok-kind.parts c.in_ok-card.card in
+    let m = c.fields_of.result in
     let found = sym c.in_ok-card.ensures.ok_part ∙ c.card_number.ensures in
-    let formed = well_formed b c.in_ok-kind.kind ok.framed c.in_ok-kind.parts ok.parts c.in_ok-card.card found c.allows.result c.allows.ensures c.if-not-allows.false in
+    let formed = well_formed b c.in_ok-kind.kind ok.framed c.in_ok-kind.parts ok.parts c.in_ok-card.card found c.allows.result c.allows.ensures m c.fields_of.ensures c.if-not-allows.false in
     let opens : opening b ≡ Ok m =
-    sym (opened_is b c.in_ok-kind.kind ok.framed c.in_ok-kind.parts ok.parts c.in_ok-card.card found c.allows.result c.allows.ensures c.if-not-allows.false) in
+    sym (opened_is b c.in_ok-kind.kind ok.framed c.in_ok-kind.parts ok.parts c.in_ok-card.card found c.allows.result c.allows.ensures m c.fields_of.ensures c.if-not-allows.false) in
     let are : Bytes b = All-from_get_or (λ x. x < 256) b 0 (λ i within. (c.type_inv.message i).fits) in
     let own = own_bytes b are m opens in
     let again = went_through (first_failing (opening_checks b)) (message_in b) m opens in
     record {
-      numbered = own_kind b c.in_ok-kind.kind ok.framed c.in_ok-kind.parts ok.parts c.in_ok-card.card found c.allows.result c.allows.ensures c.if-not-allows.false;
+      known = opened_kind b m opens;
       trim = formed.0;
       accepted = formed.1;
       opens = ap (λ x. is_some (first_failing (opening_checks x))) own ∙ ap is_some again.0;
@@ -38,4 +38,4 @@ pub returns : goal.returns
 returns c =
     let ok = c.in_ok-kind.ensures in
     let found = sym c.in_ok-card.ensures.ok_part ∙ c.card_number.ensures in
-    opened_is c.args.message.now c.in_ok-kind.kind ok.framed c.in_ok-kind.parts ok.parts c.in_ok-card.card found c.allows.result c.allows.ensures c.if-not-allows.false
+    opened_is c.args.message.now c.in_ok-kind.kind ok.framed c.in_ok-kind.parts ok.parts c.in_ok-card.card found c.allows.result c.allows.ensures c.fields_of.result c.fields_of.ensures c.if-not-allows.false

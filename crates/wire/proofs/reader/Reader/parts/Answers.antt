@@ -1,16 +1,16 @@
-use Rattle.std.proofs.Common.{ℕ, ◌+◌, cond, List, ap, ◌∙◌, arith, rules}
+use Rattle.std.proofs.Common.{ℕ, List, sym, refl, ap, ◌∙◌, arith, rules}
 use Rattle.std.specs.Int.Digits.{number_from_digits}
-use Rattle.fields.specs.Field.{stands}
+use Rattle.fields.specs.Field.{fields_from}
 use Rattle.wire.specs.Layout.{piece_in}
 use Rattle.wire.proofs.Numbers.{read_1, read_4, read_8}
-use Rattle.wire.proofs.Reading.{as_first, ones_of_kind, still}
+use Rattle.wire.proofs.Reading.{as_first, fields_of_kind, still}
 use Rattle.wire.proofs.reader.Reader.parts.Goals as goal
 
 abbrev piece : ℕ → ℕ → List ℕ → List ℕ
 piece bit map bytes = piece_in map bytes bit
 
-abbrev one : ℕ → ℕ → List ℕ → ℕ
-one bit map bytes = cond (stands map bit) 1 0
+pub field-requires : goal.field-requires
+field-requires c = (omega arith, (c.requires ∙ sym (fields_of_kind c.args.self.now.kind).0, refl))
 
 pub returns : goal.returns
 returns c =
@@ -34,11 +34,5 @@ returns c =
     let amount = read_8 c.field-6.result c.from_be_bytes-4.result (search rules) c.from_be_bytes-4.ensures ∙ ap (number_from_digits 256) p₆ in
     let batch = read_4 c.field-7.result c.from_be_bytes-5.result (search rules) c.from_be_bytes-5.ensures ∙ ap (number_from_digits 256) p₇ in
     let code = read_1 c.field-8.result c.from_be_bytes-6.result (search rules) c.from_be_bytes-6.ensures ∙ ap (number_from_digits 256) p₈ in
-    let n₂ = c.field-2.ensures.counted ∙ ap (λ n. c.field.new.self.read + n) (as_first (one 1) _ _ _ _ s₁) in
-    let n₃ = c.field-3.ensures.counted ∙ ap (λ n. c.field-2.new.self.read + n) (as_first (one 2) _ _ _ _ s₂) in
-    let n₄ = c.field-4.ensures.counted ∙ ap (λ n. c.field-3.new.self.read + n) (as_first (one 3) _ _ _ _ s₃) in
-    let n₅ = c.field-5.ensures.counted ∙ ap (λ n. c.field-4.new.self.read + n) (as_first (one 4) _ _ _ _ s₄) in
-    let n₆ = c.field-6.ensures.counted ∙ ap (λ n. c.field-5.new.self.read + n) (as_first (one 5) _ _ _ _ s₅) in
-    let n₇ = c.field-7.ensures.counted ∙ ap (λ n. c.field-6.new.self.read + n) (as_first (one 6) _ _ _ _ s₆) in
-    let n₈ = c.field-8.ensures.counted ∙ ap (λ n. c.field-7.new.self.read + n) (as_first (one 7) _ _ _ _ s₇) in
-    record { value = cc; counted = omega (arith, c.requires, c.field.ensures.counted, n₂, n₃, n₄, n₅, n₆, n₇, n₈, ones_of_kind c.args.self.now.kind) }
+    let last = c.field-8.ensures.left ∙ as_first (λ map _. fields_from map 8) _ _ _ _ s₇ in
+    record { value = cc; all = last ∙ (fields_of_kind c.args.self.now.kind).1 }

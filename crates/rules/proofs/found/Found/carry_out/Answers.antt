@@ -1,0 +1,81 @@
+use Rattle.std.proofs.Common.{◌≡◌, ◌≤◌, None, sym, ap, ◌∙◌, subst}
+use Rattle.fields.specs.Kind.{kind_number}
+use Rattle.wire.specs.declared.message.Fields.{Fields}
+use Rattle.rules.specs.Change.{capturing, closing_batch, crediting, uncapturing, uncrediting}
+use Rattle.rules.specs.Plan.{put_for}
+use Rattle.rules.specs.Rules.{new_purchase}
+use Rattle.rules.specs.Sound.{most_pence}
+use Rattle.rules.specs.declared.plan.Plan.TheVariants.{Commit, Put}
+use Rattle.rules.specs.declared.plan.RowWrite.TheVariants.{Nothing, Append}
+use Rattle.rules.proofs.Plans.{authorises, bounded_found, captures, closes, credits, lowers, planned, reverses_capture, reverses_credit, sound_found}
+use Rattle.rules.proofs.found.Found.carry_out.Goals as goal
+
+small : (m n : Fields) → m ≡ n → m.amount ≤ most_pence → n.amount ≤ most_pence
+small m n same = subst (λ (x : Fields). x.amount ≤ most_pence) same
+
+pub returns-in-AuthReq : goal.returns-in-AuthReq
+returns-in-AuthReq c l finds goes =
+    let found = c.args.self.now in
+    let message = c.args.message.now in
+    let m = message.fields in
+    planned found l m finds (λ f places. Put (put_for f places m (Append (new_purchase m)) None))
+    (authorises l m message.known goes (sym c.kind.ensures ∙ ap kind_number c.in-AuthReq.is) (sound_found found l m finds)) (Put c.put.result)
+    (ap Put (c.put.ensures ∙ ap (λ p. put_for found.facts found.places m (Append p) None) (c.new.ensures ∙ ap new_purchase c.fields-m.ensures.value)))
+
+pub returns-in-AuthRevReq : goal.returns-in-AuthRevReq
+returns-in-AuthRevReq c l finds goes =
+    let found = c.args.self.now in
+    let message = c.args.message.now in
+    let m = message.fields in
+    planned found l m finds (λ f places. Put (put_for f places m Nothing None))
+    (lowers l m message.known goes (sym c.kind.ensures ∙ ap kind_number c.in-AuthRevReq.is) (sound_found found l m finds)) (Put c.put-in-AuthRevReq.result)
+    (ap Put c.put-in-AuthRevReq.ensures)
+
+pub returns-in-CapReq : goal.returns-in-CapReq
+returns-in-CapReq c l finds goes =
+    let found = c.args.self.now in
+    let message = c.args.message.now in
+    let m = message.fields in
+    planned found l m finds (λ f places. Commit (capturing f places m))
+    (captures l m message.known goes (small c.fields-m.result m c.fields-m.ensures.value c.fields-m.ensures.small) (sound_found found l m finds) (bounded_found found l m finds)
+    (sym c.kind.ensures ∙ ap kind_number c.in-CapReq.is))
+    (Commit c.capture.result) (ap Commit c.capture.ensures)
+
+pub returns-in-CapRevReq : goal.returns-in-CapRevReq
+returns-in-CapRevReq c l finds goes =
+    let found = c.args.self.now in
+    let message = c.args.message.now in
+    let m = message.fields in
+    planned found l m finds (λ f places. Commit (uncapturing f places m))
+    (reverses_capture l m message.known goes (small c.fields-m.result m c.fields-m.ensures.value c.fields-m.ensures.small) (sound_found found l m finds) (bounded_found found l m finds)
+    (sym c.kind.ensures ∙ ap kind_number c.in-CapRevReq.is))
+    (Commit c.reverse_capture.result) (ap Commit c.reverse_capture.ensures)
+
+pub returns-in-CredReq : goal.returns-in-CredReq
+returns-in-CredReq c l finds goes =
+    let found = c.args.self.now in
+    let message = c.args.message.now in
+    let m = message.fields in
+    planned found l m finds (λ f places. Commit (crediting f places m))
+    (credits l m message.known goes (small c.fields-m.result m c.fields-m.ensures.value c.fields-m.ensures.small) (sound_found found l m finds) (bounded_found found l m finds)
+    (sym c.kind.ensures ∙ ap kind_number c.in-CredReq.is))
+    (Commit c.credit.result) (ap Commit c.credit.ensures)
+
+pub returns-in-CredRevReq : goal.returns-in-CredRevReq
+returns-in-CredRevReq c l finds goes =
+    let found = c.args.self.now in
+    let message = c.args.message.now in
+    let m = message.fields in
+    planned found l m finds (λ f places. Commit (uncrediting f places m))
+    (reverses_credit l m message.known goes (small c.fields-m.result m c.fields-m.ensures.value c.fields-m.ensures.small) (sound_found found l m finds) (bounded_found found l m finds)
+    (sym c.kind.ensures ∙ ap kind_number c.in-CredRevReq.is))
+    (Commit c.reverse_credit.result) (ap Commit c.reverse_credit.ensures)
+
+pub returns-in-BatchClose : goal.returns-in-BatchClose
+returns-in-BatchClose c l finds goes =
+    let found = c.args.self.now in
+    let message = c.args.message.now in
+    let m = message.fields in
+    planned found l m finds (λ f places. Commit (closing_batch f places m))
+    (closes l m message.known goes (sym c.kind.ensures ∙ ap kind_number c.in-BatchClose.is) (bounded_found found l m finds)) (Commit c.close_batch.result)
+    (ap Commit (c.close_batch.ensures ∙ ap (closing_batch found.facts found.places) c.fields-m.ensures.value))
