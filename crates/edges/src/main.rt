@@ -1,24 +1,34 @@
-//! The edges of the rules: for each a few messages, composed by the writer, and what each was answered.
+//! The edges of the rules: for each a few messages, composed by the writer, and what each was
+//! answered.
 #![tactic(auto)]
 
 ghost use Rattle.std.specs.Prelude.{◌+◌, ◌≤◌, length};
 ghost use Rattle.std.specs.Iterator.{IsFinite};
 
 use anyhow::{Context, anyhow};
+use console::arguments;
 use fields::kind::Kind;
 use gateway::{Gateway, Handled};
-use host::Host;
+use host::{Card, Host};
 use hosts::account_book::{Account, AccountBook, Hold};
 use layers::bad_line::{BadLine, LOSES_ANSWER, LOSES_CALL};
 use std::alloc::Global;
+use std::process::ExitCode;
 use wire::answer::FULL_LENGTH;
 use wire::message::{Fields, Xid};
 use wire::{STRIP, write};
 
+const HELP: &str = "\
+usage: edges
+Reads nothing. Sends messages at the edges of the rules: bad lengths, cards and amounts, one
+purchase, answer and batch more than there is room for, and a put or an answer that is lost.
+Prints for each what it was answered: the code, and the amount in pence.
+";
+
 const CARD: u64 = 4_111_111_111_111_111;
 
 const ACCOUNTS: [Account; 1] = [Account {
-    card: CARD,
+    card: Card { number: CARD },
     balance: 100_000,
 }];
 
@@ -90,7 +100,7 @@ fn inquiry(request: u64, name: u8) -> Fields {
     }
 }
 
-// A front end lends both buffers. No plainer to share: this hands the answer on, `meeting` prints it, and no library does both.
+// Handles the message with buffers of its own, and hands on what was answered.
 fn handle<H: Host>(gateway: &mut Gateway<H>, message: &[u8]) -> Handled {
     let mut strip = [0u8; STRIP];
     let mut answer = [0u8; FULL_LENGTH];
@@ -112,7 +122,7 @@ fn send<H: Host>(gateway: &mut Gateway<H>, fields: &Fields) -> anyhow::Result<Ha
 }
 
 // An authorisation a byte too short, and a byte too long.
-// Each step takes the printer and the gateway that it is tried on, side by side: the printer stays, and each gateway is new.
+// Each step takes the printer, which stays, and the gateway that it is tried on, which is new.
 fn bad_lengths<H: Host>(rt: &impl Print, gateway: &mut Gateway<H>) -> anyhow::Result<()> {
     let mut message = [0u8; LONGER];
     let _ = write(&authorisation(1, 1, 3_000), &mut message);
@@ -179,7 +189,8 @@ fn many_batches<H: Host>(rt: &impl Print, gateway: &mut Gateway<H>) -> anyhow::R
     send_all(rt, gateway, "batch", &[8, 9], messages)
 }
 
-// An authorisation whose put is lost, what is held then, a reversal, the authorisation again, and what is held then.
+// An authorisation whose put is lost, what is held then, a reversal, the authorisation again, and
+// what is held then.
 fn lost_put<H: Host>(rt: &impl Print, gateway: &mut Gateway<H>) -> anyhow::Result<()> {
     for (name, message) in [
         ("authorisation", authorisation(1, 1, 3_000)),
@@ -194,7 +205,8 @@ fn lost_put<H: Host>(rt: &impl Print, gateway: &mut Gateway<H>) -> anyhow::Resul
     Ok(())
 }
 
-// A gateway with empty books, over a line with these marks and a book with nothing held in these rows.
+// A gateway with empty books, over a line with these marks and a book with nothing held in these
+// rows.
 fn new_gateway<'h>(
     alloc: Global,
     holds: &'h mut [Hold],
@@ -223,6 +235,10 @@ fn run(rt: &HostRuntime) -> anyhow::Result<()> {
     lost_put(rt, &mut new_gateway(rt.alloc(), &mut holds, &[LOSES_CALL])?)
 }
 
-fn main(rt: HostRuntime) -> anyhow::Result<()> {
-    run(&rt)
+fn main(rt: HostRuntime) -> anyhow::Result<ExitCode> {
+    if let Some(status) = arguments::answer(&rt, HELP)? {
+        return Ok(status);
+    }
+    run(&rt)?;
+    Ok(ExitCode::SUCCESS)
 }

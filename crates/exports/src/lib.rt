@@ -1,5 +1,6 @@
-//! The gateway for a program that is not Rattle: opening, writing, and a whole run of records, each under a name of C.
-//! A caller owes only what the types say: a slice is a pointer and a length, and no two of them overlap.
+//! The gateway for a program that is not Rattle: opening, writing, and a whole run of records, each
+//! under a name of C. A caller owes only what the types say: a slice is a pointer and a length, and
+//! no two of them overlap.
 #![tactic(auto)]
 
 ghost use Rattle.std.specs.Prelude.{◌≡◌, ◌<◌, ◌≤◌, ◌*◌, length, IfOk};
@@ -11,7 +12,7 @@ ghost use Rattle.wire.specs.Writing.{writing_into};
 
 use fields::record::Records;
 use gateway::Gateway;
-use host::Host;
+use host::{Card, Host};
 use hosts::account_book::{Account, AccountBook, Hold};
 use std::alloc::{AllocError, Global};
 use wire::answer::FULL_LENGTH;
@@ -19,7 +20,6 @@ use wire::message::Fields;
 use wire::{STRIP, open, write};
 
 /// The fields of a message, as C lays them out.
-// Apart from `Fields`, as the two below are apart from the rows of the account book: only what is laid out as in C crosses to it.
 #[repr(C)]
 #[derive(Clone, Copy, PartialEq, Eq, Debug)]
 pub struct MessageFields {
@@ -77,10 +77,12 @@ fn from_c(m: &MessageFields) -> Fields
     }
 }
 
-/// Opens a message: 0 and its fields, or the number of the refusal and the fields left as they were.
+/// Opens a message: 0 and its fields, or the number of the refusal and the fields left as they
+/// were.
 #[unsafe(no_mangle)]
 pub extern "C" fn gateway_open(message: &[u8], strip: &mut [u8], fields: &mut MessageFields) -> u8
-    ensures value { given result (fields_of fields.new) ≡ opening_on (length strip.old) message.now }
+    ensures value { given result (fields_of fields.new)
+        ≡ opening_on (length strip.old) message.now }
     ensures kept { 0 < result → fields.new ≡ fields.old }
     ensures after { strip.new ≡ strip_after strip.old }
 {
@@ -93,16 +95,19 @@ pub extern "C" fn gateway_open(message: &[u8], strip: &mut [u8], fields: &mut Me
     }
 }
 
-/// Writes a message into the front of a buffer: 0 and its length, or the number of the refusal and the length left as it was.
+/// Writes a message into the front of a buffer: 0 and its length, or the number of the refusal and
+/// the length left as it was.
 #[unsafe(no_mangle)]
 pub extern "C" fn gateway_write(
     fields: &MessageFields,
     buffer: &mut [u8],
     written: &mut usize,
 ) -> u8
-    ensures value { given result written.new ≡ length_written (writing_into (length buffer.old) (fields_of fields.now)) }
+    ensures value { given result written.new
+        ≡ length_written (writing_into (length buffer.old) (fields_of fields.now)) }
     ensures kept { 0 < result → written.new ≡ written.old }
-    ensures after { buffer.new ≡ over_front (writing_into (length buffer.old) (fields_of fields.now)) buffer.old }
+    ensures after { buffer.new
+        ≡ over_front (writing_into (length buffer.old) (fields_of fields.now)) buffer.old }
 {
     match write(&from_c(fields), buffer) {
         Ok(length) => {
@@ -113,7 +118,7 @@ pub extern "C" fn gateway_write(
     }
 }
 
-// Handles each whole record, its answer into the next 24 bytes, while there are both; and how many that were.
+/// Handles each whole record while there is room for its answer; returns how many.
 fn handle_all<H: Host>(gateway: &mut Gateway<H>, records: &[u8], answers: &mut [u8]) -> usize
     ensures { result * 24 ≤ length answers.old }
 {
@@ -128,7 +133,7 @@ fn handle_all<H: Host>(gateway: &mut Gateway<H>, records: &[u8], answers: &mut [
     handled
 }
 
-// The rows that cross are copied into the book's own, and those that it leaves are copied back.
+/// The rows that cross are copied into the book's own, and those that it leaves are copied back.
 fn run(
     alloc: Global,
     accounts: &[AccountRow],
@@ -141,7 +146,7 @@ fn run(
     let mut known = Vec::new(alloc);
     for row in accounts {
         known.push(Account {
-            card: row.card,
+            card: Card { number: row.card },
             balance: row.balance,
         })?;
     }
@@ -154,16 +159,17 @@ fn run(
     drop(gateway);
     for (out, row) in holds.iter_mut().zip(rows.iter()) {
         *out = HoldRow {
-            card: row.card,
-            reference: row.reference,
+            card: row.pair.card.number,
+            reference: row.pair.reference,
             amount: row.amount,
         };
     }
     Ok(handled)
 }
 
-/// Handles the records over new books and an account book with these accounts and so many rows for holds, and answers how
-/// many were handled; without memory none is. Each answer takes 24 bytes, and the holds are given back as they then stand.
+/// Handles the records over new books and an account book with these accounts and so many rows for
+/// holds, and returns how many were handled; without memory none is. Each answer takes 24 bytes,
+/// and the holds are given back as they then are.
 #[unsafe(no_mangle)]
 pub extern "C" fn gateway_run(
     alloc: Global,

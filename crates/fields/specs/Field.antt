@@ -1,5 +1,5 @@
 -- The sixteen fields of a message: their widths in bytes, and the place of each under a bit map.
-use Rattle.std.specs.Prelude.{ℕ, zero, suc, ◌+◌, ◌-◌, ◌/◌, ◌%◌, ◌^◌, Bool, cond, List, [], ◌∷◌, ◌==◌, slice_index}
+use Rattle.std.specs.Prelude.{ℕ, zero, suc, ◌+◌, ◌-◌, ◌/◌, ◌%◌, ◌^◌, Bool, if◌then◌else◌, List, [], ◌∷◌, ◌==◌, slice_index}
 use Rattle.fields.specs.declared.field.Field.{Field}
 use Rattle.fields.specs.declared.field.Field.TheVariants.{Kind, Request, Course, Xid, Card, Amount, Batch, Code}
 
@@ -28,7 +28,7 @@ stands map bit = (map / 2 ^ (15 - bit)) % 2 == 1
 -- what the first n fields of a map take up together
 abbrev pub widths_to : ℕ → ℕ → ℕ
 widths_to map zero = 0
-widths_to map (suc n) = widths_to map n + cond (stands map n) (width n) 0
+widths_to map (suc n) = widths_to map n + (if stands map n then width n else 0)
 
 -- where the field of this bit begins: after the map's two bytes and the fields before it
 abbrev pub place : ℕ → ℕ → ℕ
@@ -41,7 +41,7 @@ length_under map = place map 16
 -- how many of the first n fields stand
 abbrev pub fields_to : ℕ → ℕ → ℕ
 fields_to map zero = 0
-fields_to map (suc n) = fields_to map n + cond (stands map n) 1 0
+fields_to map (suc n) = fields_to map n + (if stands map n then 1 else 0)
 
 -- how many stand from the field of this bit on
 abbrev pub fields_from : ℕ → ℕ → ℕ

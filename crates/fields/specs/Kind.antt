@@ -1,5 +1,6 @@
--- The nine kinds of message, by number: the fields of each, its map and length, and the amounts it allows.
-use Rattle.std.specs.Prelude.{◌≡◌, ℕ, ◌+◌, ◌-◌, ◌^◌, Bool, false, ◌&&◌, List, [], ◌∷◌, map, codes, nat_le, slice_index, slice_index_or, Result, MatchResult}
+-- The nine kinds of message, by number: the fields of each, its map and length, and the amounts it
+-- allows.
+use Rattle.std.specs.Prelude.{◌≡◌, ℕ, zero, suc, ◌+◌, ◌-◌, ◌^◌, Bool, false, ◌&&◌, List, [], ◌∷◌, map, codes, Some, None, Option, nat_le, slice_get, Result, MatchResult}
 use Rattle.fields.specs.Field.{bit_of, length_under}
 use Rattle.fields.specs.declared.field.Field.{Field}
 use Rattle.fields.specs.declared.field.Field.TheVariants.{Kind as KindF, Request, Course, Xid, Card, Amount, Batch}
@@ -19,7 +20,7 @@ kind_number BatchOpen = 7
 kind_number BatchClose = 8
 kind_number Inquiry = 9
 
--- SET's names of the messages, and ours where it has none
+-- SET's names of the messages, and plain words for those that SET has under other names
 abbrev pub kind_name : Kind → List ℕ
 kind_name AuthReq = codes "AuthReq"
 kind_name AuthRevReq = codes "AuthRevReq"
@@ -34,24 +35,34 @@ kind_name Inquiry = codes "inquiry"
 abbrev pub is_kind : ℕ → Bool
 is_kind k = nat_le 1 k && nat_le k 9
 
+-- the kinds in the order of their numbers, which begin at 1
+abbrev kinds : List Kind
+kinds =
+    AuthReq ∷ AuthRevReq ∷ CapReq ∷ CapRevReq ∷ CredReq ∷ CredRevReq
+    ∷ BatchOpen ∷ BatchClose ∷ Inquiry ∷ []
+
+-- the kind with this number, if one has it
+abbrev pub kind_from : ℕ → Option Kind
+kind_from zero = None
+kind_from (suc n) = slice_get kinds n
+
 -- the kind with this number, or the refusal of a number that no kind has
 abbrev pub IsKindOf : ℕ → Result Kind Refusal → Type 0
-IsKindOf n r = MatchResult r (λ kind. kind_number kind ≡ n) (λ e. (e ≡ UnknownKind) × (is_kind n ≡ false))
+IsKindOf n r =
+    MatchResult r (λ kind. kind_number kind ≡ n) (λ e. (e ≡ UnknownKind) × (is_kind n ≡ false))
 
--- the fields of each kind, by its number; there is no kind 0
-abbrev pub kind_fields : List (List Field)
-kind_fields =
-    [] ∷
-    (KindF ∷ Request ∷ Course ∷ Xid ∷ Card ∷ Amount ∷ []) ∷
-    (KindF ∷ Request ∷ Course ∷ Xid ∷ Amount ∷ []) ∷
-    (KindF ∷ Request ∷ Course ∷ Xid ∷ Amount ∷ Batch ∷ []) ∷
-    (KindF ∷ Request ∷ Course ∷ Xid ∷ Batch ∷ []) ∷
-    (KindF ∷ Request ∷ Course ∷ Xid ∷ Amount ∷ Batch ∷ []) ∷
-    (KindF ∷ Request ∷ Course ∷ Xid ∷ Amount ∷ Batch ∷ []) ∷
-    (KindF ∷ Request ∷ Course ∷ Batch ∷ []) ∷
-    (KindF ∷ Request ∷ Course ∷ Batch ∷ []) ∷
-    (KindF ∷ Request ∷ Course ∷ Xid ∷ []) ∷
-    []
+-- the fields of a message of each kind
+abbrev pub kind_fields : Option Kind → List Field
+kind_fields (Some AuthReq) = KindF ∷ Request ∷ Course ∷ Xid ∷ Card ∷ Amount ∷ []
+kind_fields (Some AuthRevReq) = KindF ∷ Request ∷ Course ∷ Xid ∷ Amount ∷ []
+kind_fields (Some CapReq) = KindF ∷ Request ∷ Course ∷ Xid ∷ Amount ∷ Batch ∷ []
+kind_fields (Some CapRevReq) = KindF ∷ Request ∷ Course ∷ Xid ∷ Batch ∷ []
+kind_fields (Some CredReq) = KindF ∷ Request ∷ Course ∷ Xid ∷ Amount ∷ Batch ∷ []
+kind_fields (Some CredRevReq) = KindF ∷ Request ∷ Course ∷ Xid ∷ Amount ∷ Batch ∷ []
+kind_fields (Some BatchOpen) = KindF ∷ Request ∷ Course ∷ Batch ∷ []
+kind_fields (Some BatchClose) = KindF ∷ Request ∷ Course ∷ Batch ∷ []
+kind_fields (Some Inquiry) = KindF ∷ Request ∷ Course ∷ Xid ∷ []
+kind_fields None = []
 
 -- the map in which just these fields stand
 abbrev pub map_with : List Field → ℕ
@@ -59,7 +70,7 @@ map_with [] = 0
 map_with (f ∷ fs) = 2 ^ (15 - bit_of f) + map_with fs
 
 abbrev pub map_of : ℕ → ℕ
-map_of k = map_with (slice_index_or kind_fields k [])
+map_of k = map_with (kind_fields (kind_from k))
 
 abbrev pub length_of : ℕ → ℕ
 length_of k = length_under (map_of k)
@@ -67,15 +78,29 @@ length_of k = length_under (map_of k)
 -- the maps and lengths of kinds 1 to 9
 abbrev pub KindsComeOut : Type 0
 KindsComeOut =
-    map {B = ℕ × ℕ} (λ (k : ℕ). (map_of k, length_of k)) (1 ∷ 2 ∷ 3 ∷ 4 ∷ 5 ∷ 6 ∷ 7 ∷ 8 ∷ 9 ∷ [])
-    ≡ (0xFC00, 53) ∷ (0xF400, 43) ∷ (0xF600, 47) ∷ (0xF200, 39) ∷ (0xF600, 47) ∷ (0xF600, 47) ∷ (0xE200, 19) ∷ (0xE200, 19) ∷ (0xF000, 35) ∷ []
+    map {B = ℕ × ℕ} (λ (k : ℕ). (map_of k, length_of k))
+    (1 ∷ 2 ∷ 3 ∷ 4 ∷ 5 ∷ 6 ∷ 7 ∷ 8 ∷ 9 ∷ [])
+    ≡ (0xFC00, 53) ∷ (0xF400, 43) ∷ (0xF600, 47) ∷ (0xF200, 39) ∷ (0xF600, 47)
+    ∷ (0xF600, 47) ∷ (0xE200, 19) ∷ (0xE200, 19) ∷ (0xF000, 35) ∷ []
 
--- the amounts in pence that each kind allows, by its number: the least and the most; only 0 where it has no amount
-abbrev pub least_amounts : List ℕ
-least_amounts = 0 ∷ 1 ∷ 0 ∷ 1 ∷ 0 ∷ 1 ∷ 1 ∷ 0 ∷ 0 ∷ 0 ∷ []
+-- the largest amount in pence that a message may carry: one penny under a million pounds
+abbrev pub most_pence : ℕ
+most_pence = 99999999
 
-abbrev pub most_amounts : List ℕ
-most_amounts = 0 ∷ 99999999 ∷ 99999999 ∷ 99999999 ∷ 0 ∷ 99999999 ∷ 99999999 ∷ 0 ∷ 0 ∷ 0 ∷ []
+-- the least and the most that a message of each kind may carry; 0 alone where it has no amount
+abbrev pub amount_bounds : Option Kind → ℕ × ℕ
+amount_bounds (Some AuthReq) = (1, most_pence)
+amount_bounds (Some AuthRevReq) = (0, most_pence)
+amount_bounds (Some CapReq) = (1, most_pence)
+amount_bounds (Some CapRevReq) = (0, 0)
+amount_bounds (Some CredReq) = (1, most_pence)
+amount_bounds (Some CredRevReq) = (1, most_pence)
+amount_bounds (Some BatchOpen) = (0, 0)
+amount_bounds (Some BatchClose) = (0, 0)
+amount_bounds (Some Inquiry) = (0, 0)
+amount_bounds None = (0, 0)
 
 abbrev pub amount_allowed : ℕ → ℕ → Bool
-amount_allowed k amount = nat_le (slice_index least_amounts k) amount && nat_le amount (slice_index most_amounts k)
+amount_allowed k amount =
+    let bounds = amount_bounds (kind_from k) in
+    nat_le bounds.0 amount && nat_le amount bounds.1

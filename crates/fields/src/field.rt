@@ -1,23 +1,31 @@
-// The sixteen fields of a message: how wide each is, and at which place it stands under a bit map.
+//! The sixteen fields of a message: how wide each is, and at which place it stands under a bit map.
 ghost use Rattle.std.specs.Prelude.{◌≡◌, ◌<◌, ◌≤◌, count_ones};
 ghost use Rattle.fields.specs.Field.{bit_of, width, stands, widths_to, place, length_under, fields_to};
 
-/// How many bits a map has, the highest for field 1.
+/// How many bits a map has, one for each field, the highest for field 1.
 pub const FIELDS: usize = 16;
 
-// The width of each field in bytes, by bit. The last eight are reserved and never set.
+/// The width of each field in bytes, by bit. The last eight are reserved and never set.
 const WIDTHS: [usize; 16] = [1, 8, 4, 20, 10, 8, 4, 1, 0, 0, 0, 0, 0, 0, 0, 0];
 
-/// The fields in use, each with its bit counted from the highest.
+/// The fields in use, 1 to 8, each with its bit counted from the highest.
 #[derive(Clone, Copy, PartialEq, Eq, Hash, Debug)]
 pub enum Field {
+    /// Field 1: which of the nine messages it is.
     Kind = 0,
+    /// Field 2: names this request of the course; SET's RRPID, shortened to 8 bytes.
     Request = 1,
+    /// Field 3: the racecourse; SET's merchant.
     Course = 2,
+    /// Field 4: the purchase's name, as in SET.
     Xid = 3,
+    /// Field 5: the card's digits, packed two to a byte.
     Card = 4,
+    /// Field 6: pence.
     Amount = 5,
+    /// Field 7: the number of a batch of the course.
     Batch = 6,
+    /// Field 8: 0 or the number of a refusal; only answers have it.
     Code = 7,
 }
 
@@ -47,6 +55,7 @@ fn width_at(bit: usize) -> usize
 /// Which fields a message has: a bit for each, the highest for field 1.
 #[derive(Clone, Copy, PartialEq, Eq, Hash, Debug)]
 pub struct Map {
+    /// the map as a number, as its two bytes write it, the higher first
     pub bits: u16,
 }
 
@@ -58,7 +67,7 @@ impl Map {
         (self.bits >> (15 - bit)) % 2 == 1
     }
 
-    // What the fields below this bit take up together.
+    /// What the fields below this bit take up together.
     fn widths_to(self, end: usize) -> usize
         requires { end ≤ 16 }
         ensures { result ≡ widths_to self.bits end }
@@ -93,7 +102,7 @@ impl Map {
         2 + self.widths_to(FIELDS)
     }
 
-    /// How many fields a message with this map has: as many as the map has standing bits.
+    /// How many fields a message with this map has: as many as the map has set bits.
     pub fn count(self) -> u32
         ensures value { result ≡ count_ones self.bits }
         ensures counted { result ≡ fields_to self.bits 16 }

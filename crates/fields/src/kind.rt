@@ -1,4 +1,5 @@
-// The nine kinds of message: the fields of each, and from these its map and its length; the amounts it allows.
+//! The nine kinds of message: the fields of each, and from these its map and its length; the
+//! amounts it allows.
 ghost use Rattle.std.specs.Prelude.{◌≡◌, Some};
 ghost use Rattle.fields.specs.Field.{bit_of, stands};
 ghost use Rattle.fields.specs.Kind.{kind_number, IsKindOf, map_of, length_of, KindsComeOut, amount_allowed, kind_name};
@@ -10,17 +11,27 @@ use std::fmt;
 /// The largest amount in pence that a message may carry: one penny under a million pounds.
 pub const MOST_PENCE: u64 = 99_999_999;
 
-/// The nine kinds of message, each with its number on the wire. From any other number comes `Refusal::UnknownKind`.
+/// The nine kinds of message, each with its number on the wire. Any other number is refused with
+/// `Refusal::UnknownKind`.
 #[derive(Clone, Copy, PartialEq, Eq, Hash, Debug)]
 pub enum Kind {
+    /// An authorisation sets an amount aside on a card; SET's AuthReq.
     AuthReq = 1,
+    /// An authorisation reversal lowers it, or lifts it by 0; SET's AuthRevReq.
     AuthRevReq = 2,
+    /// A capture takes the payment, wholly or in part; SET's CapReq.
     CapReq = 3,
+    /// A capture reversal undoes a capture; SET's CapRevReq.
     CapRevReq = 4,
+    /// A credit gives back what was captured, wholly or in part; SET's CredReq.
     CredReq = 5,
+    /// A credit reversal takes a credit back; SET's CredRevReq.
     CredRevReq = 6,
+    /// Opens a batch; one use of SET's BatchAdminReq.
     BatchOpen = 7,
+    /// Closes a batch; another use of SET's BatchAdminReq.
     BatchClose = 8,
+    /// Asks what the host holds for a purchase; SET's InqReq.
     Inquiry = 9,
 }
 
@@ -84,7 +95,8 @@ impl Kind {
         self.map().length()
     }
 
-    /// Whether a message of this kind may carry this amount in pence; a kind without an amount has 0.
+    /// Whether a message of this kind may carry this amount in pence. A kind without an amount
+    /// allows only 0.
     pub fn allows(self, amount: u64) -> bool
         ensures { result ≡ amount_allowed (kind_number self) amount }
     {
@@ -96,7 +108,7 @@ impl Kind {
         least <= amount && amount <= most
     }
 
-    /// The name of the message: SET's, and ours where it has none.
+    /// The name of the message: SET's, or plain words for the three that SET has under other names.
     pub fn name(self) -> &'static str
         ensures { result.now ≡ kind_name self }
     {

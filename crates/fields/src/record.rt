@@ -1,11 +1,11 @@
-// A file of records, each a length byte and a message.
+//! A file of records, each a length byte and a message.
 ghost use Rattle.std.specs.Prelude.{◌≡◌};
 ghost use Rattle.fields.specs.Record.{seen, first_record, records_in, records_left};
 
 use std::error::Error;
 use std::fmt;
 
-/// A length byte, and fewer bytes after it than it says.
+/// A record that is cut: fewer bytes come after its length byte than it says.
 #[derive(Clone, Copy, PartialEq, Eq, Debug)]
 pub struct Cut;
 
@@ -21,7 +21,8 @@ impl fmt::Display for Cut {
 
 impl Error for Cut {}
 
-/// What stands at the front: nothing more, a cut record, or a message and the records after it.
+/// What stands at the front of these bytes: nothing where they are at their end, a cut record, or a
+/// message and the records after it.
 pub fn first_record(bytes: &[u8]) -> Option<Result<(&[u8], &[u8]), Cut>>
     ensures { seen result ≡ first_record bytes.now }
 {
@@ -29,7 +30,7 @@ pub fn first_record(bytes: &[u8]) -> Option<Result<(&[u8], &[u8]), Cut>>
     Some(rest.split_at_checked(usize::from(*length)).ok_or(Cut))
 }
 
-/// The messages in order, and the end after a cut record.
+/// The messages of a file in order. A cut record is the last thing that comes.
 #[derive(Clone, Copy, Debug)]
 pub struct Records<'a> {
     rest: &'a [u8],

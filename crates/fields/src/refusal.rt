@@ -1,11 +1,12 @@
-// Why a message is not opened or not written.
+//! Why a message is not opened or not written.
 ghost use Rattle.std.specs.Prelude.{◌≡◌, Some};
 ghost use Rattle.fields.specs.Refusal.{refusal_number, refusal_reason};
 
 use std::error::Error;
 use std::fmt;
 
-/// Why a message is not opened or not written, each reason with the number that an answer has for it.
+/// Why a message is not opened or not written, each reason with the number that an answer has for
+/// it. What a refusal leaves is said at the call that gives it.
 #[derive(Clone, Copy, PartialEq, Eq, Hash, Debug)]
 pub enum Refusal {
     /// A lent buffer or the digit strip is too short.

@@ -16,9 +16,9 @@ use Rattle.wire.specs.Writing.{bytes_for}
 use Rattle.wire.specs.declared.message.Fields.{Fields}
 use Rattle.rules.specs.Ledger.{Ledger}
 use Rattle.rules.specs.declared.outcome.Performed.{Performed}
-use Rattle.law.specs.Carried.{CarriesLaw}
-use Rattle.law.specs.History.{opened, spelling}
-use Rattle.law.specs.Reached.{full, short}
+use Rattle.law.specs.Repeats.{full}
+use Rattle.law.specs.Carried.{CarriesLaw, spelling}
+use Rattle.law.specs.History.{opened, short}
 use Rattle.law.proofs.Carrying.{carries_short, lawful, spelled_so}
 use Rattle.gateway.specs.Handling.{Handles, HandlesLaw, answer_to}
 use Rattle.gateway.specs.Performing.{Performs}
@@ -32,13 +32,13 @@ opened_on strip bytes enough = ap (λ t. unless (cond t (Some 1) (first_failing 
 
 module _ {H : Type 0} (h : HostMeaning H) (none : Bool) (bytes : List ℕ) (l : Ledger) (host : H) (buffer strip : List ℕ) where
   abbrev Rules : Bool → Result Fields ℕ → Handled → Ledger → H → List ℕ → List ℕ → Type 0
-  Rules t o = Handles h t o l host buffer strip
+  Rules t o r l' host' buffer' strip' = Handles h l host buffer strip r l' host' buffer' strip' t o
 
   -- nothing was done
   pub refused_for_room : none ≡ true → Rules none (opened bytes) NoRoom l host buffer strip
   refused_for_room is =
       subst (λ t. Rules t (opened bytes) NoRoom l host buffer strip) (sym is)
-      (record { answer = refl; refused_first = λ first. refl; kind = refl; written = refl; blank = refl; books = refl; called = record { made = refl; holds = λ card reference. refl } })
+      (record { answer = refl; same_buffer = refl; same_strip = refl; same_books = refl; same_host = refl })
 
   pub no_room_law : none ≡ true → HandlesLaw none h.held bytes (short 1) l host l host
   no_room_law is = subst (λ t. HandlesLaw t h.held bytes (short 1) l host l host) (sym is) (λ before reached. lawful h.held before l host reached)
@@ -51,12 +51,10 @@ module _ {H : Type 0} (h : HostMeaning H) (none : Bool) (bytes : List ℕ) (l : 
         (subst (λ o. Rules false o (Full k a) l' host' buffer' strip') (sym is)
         (record {
           answer = ap full p.answer;
-          refused_first = λ first. absurd (true≢false (sym first));
           kind = ap Some kind;
+          rules = record { answer = refl; books = p.books; called = p.called };
           written = written ∙ ap (λ x. over_front (full_into (length buffer) (answer_to m x)) buffer) p.answer;
           blank = blank;
-          books = p.books;
-          called = p.called;
         }))
 
     pub performed_law : (m : Fields) → bytes_for m ≡ bytes → (a : Performed) → CarriesLaw h.held (spelling m) (full a) l host l' host' → HandlesLaw none h.held bytes (full a) l host l' host'
@@ -69,7 +67,7 @@ module _ {H : Type 0} (h : HostMeaning H) (none : Bool) (bytes : List ℕ) (l : 
       refused written =
           subst (λ t. Rules t (opened bytes) (Short refusal) l' host' buffer' strip') (sym room)
           (subst (λ o. Rules false o (Short refusal) l' host' buffer' strip') (sym is)
-          (record { answer = refl; refused_first = λ first. absurd (true≢false (sym first)); kind = refl; written = written; blank = blank; books = books; called = record { made = same; holds = λ card reference. ap (λ x. h.held x card reference) same } }))
+          (record { answer = refl; kind = refl; written = written; blank = blank; same_books = books; same_host = same }))
 
       pub refused_law : Bytes bytes → HandlesLaw none h.held bytes (short (refusal_number refusal)) l host l' host'
       refused_law are =

@@ -1,10 +1,12 @@
-//! The books: purchases, remembered answers and batches. Rows are never freed, and memory is taken once, when they are made.
+//! The books: purchases, remembered answers and batches. Rows are never freed, and memory is taken
+//! once, when they are made.
 ghost use Rattle.std.specs.Prelude.{◌≡◌, ◌≤◌, true, IfOk, length, vec_len, vec_capacity};
 ghost use Rattle.rows.specs.First.{row_with};
 ghost use Rattle.std.specs.Option.{unwrap_or};
-ghost use Rattle.rules.specs.Ledger.{batch_row, no_batch, no_ledger, no_purchase, purchase_row, remembered_of};
+ghost use Rattle.rules.specs.Ledger.{batch_row, most_answers, most_purchases, no_batch, no_ledger, no_purchase, purchase_row};
 ghost use Rattle.rules.specs.Change.{Fits, FitsIn, ledger_after, rows_after};
 ghost use Rattle.rules.specs.Found.{Finds, place_in, places_of};
+ghost use Rattle.rules.specs.Recalled.{Recalls};
 ghost use Rattle.rules.specs.Sound.{most_total, sound_purchase, within};
 
 use rows::{Keyed, search};
@@ -14,7 +16,7 @@ use rules::found::{Found, Places};
 use rules::outcome::Performed;
 use rules::plan::{Change, RowWrite};
 use rules::purchase::Purchase;
-use rules::remembered::{Remembered, RequestKey};
+use rules::remembered::{Recalled, Remembered, RequestKey, is_inquiry};
 use std::alloc::{AllocError, Global};
 use std::marker::Model;
 use wire::message::Fields;
@@ -55,15 +57,15 @@ fn locate<R: Keyed + Copy>(rows: &[R], key: &R::Key) -> (Option<R>, usize)
 }
 
 /// Writes into a list that has a place for it.
-fn write<R: Copy>(rows: &mut Vec<R>, write: RowWrite<R>)
+fn write<R: Copy>(rows: &mut Vec<R>, write: Option<RowWrite<R>>)
     requires { FitsIn (vec_capacity rows.old) (λ _. true) write rows.old.items }
     ensures items { rows.new.items ≡ rows_after write rows.old.items }
     ensures capacity { vec_capacity rows.new ≡ vec_capacity rows.old }
 {
     match write {
-        RowWrite::Nothing => {}
-        RowWrite::Replace(place, row) => rows[place] = row,
-        RowWrite::Append(row) => rows.push_reserved(row),
+        None => {}
+        Some(RowWrite::Replace(place, row)) => rows[place] = row,
+        Some(RowWrite::Append(row)) => rows.push_reserved(row),
     }
 }
 
@@ -86,7 +88,7 @@ impl Books {
     fn find_purchase(&self, m: &Fields) -> (Option<Purchase>, usize)
         ensures row { result.0 ≡ purchase_row self.now m.now }
         ensures place { result.1 ≡ (places_of self.now m.now).purchase }
-        ensures few { result.1 ≤ 64 }
+        ensures few { result.1 ≤ most_purchases }
         ensures sound { sound_purchase (unwrap_or result.0 no_purchase) ≡ true }
     {
         locate(self.purchases.as_slice(), &m.xid)
@@ -96,27 +98,36 @@ impl Books {
     fn find_batch(&self, m: &Fields) -> (Option<Batch>, usize)
         ensures row { result.0 ≡ batch_row self.now m.now }
         ensures place { result.1 ≡ (places_of self.now m.now).batch }
-        ensures bounded { within (most_total (length self.now.answers)) (unwrap_or result.0 no_batch) ≡ true }
+        ensures bounded { let most = most_total (length self.now.answers) in
+            within most (unwrap_or result.0 no_batch) ≡ true }
     {
         locate(self.batches.as_slice(), &BatchKey::of(m))
     }
 
-    fn find_answer(&self, m: &Fields) -> (Option<Remembered>, usize)
-        ensures row { result.0 ≡ remembered_of self.now m.now }
-        ensures place { result.1 ≡ (places_of self.now m.now).answer }
-        ensures few { length self.now.answers ≤ 256 }
+    /// What is remembered of the message. Inquiries are not remembered, and not looked for.
+    #[inline(never)]
+    pub(crate) fn recall(&self, message: &Opened) -> Recalled
+        ensures { Recalls result self.now message.now.fields }
     {
-        locate(self.answers.as_slice(), &RequestKey::of(m))
+        let answers = self.answers.as_slice();
+        let m = message.fields();
+        if is_inquiry(&m) {
+            return Recalled::Open(None);
+        }
+        let (row, place) = locate(answers, &RequestKey::of(&m));
+        match row {
+            Some(row) => Recalled::of(&row, place, &m),
+            None => Recalled::Open(None),
+        }
     }
 
-    /// What the message finds, by one search of each list.
+    /// The purchase and the batch that the message names, by one search of each list.
     pub(crate) fn look_up(&self, message: &Opened) -> Found
         ensures { Finds result self.now message.now.fields }
     {
         let m = message.fields();
         let (purchase, purchase_at) = self.find_purchase(&m);
         let (batch, batch_at) = self.find_batch(&m);
-        let (remembered, answer_at) = self.find_answer(&m);
         Found {
             facts: Facts {
                 answers: self.answers().len(),
@@ -125,11 +136,9 @@ impl Books {
                 purchase,
                 batch,
             },
-            remembered,
             places: Places {
                 purchase: purchase_at,
                 batch: batch_at,
-                answer: answer_at,
             },
         }
     }
@@ -142,7 +151,7 @@ impl Books {
     {
         write(&mut self.purchases, change.purchase);
         write(&mut self.batches, change.batch);
-        write(&mut self.answers, change.remembered);
+        write(&mut self.answers, Some(change.remembered));
         change.answer
     }
 
@@ -153,7 +162,8 @@ impl Books {
     }
 
     pub(crate) fn answers(&self) -> &[Remembered]
-        ensures { result.now ≡ self.now.answers }
+        ensures rows { result.now ≡ self.now.answers }
+        ensures few { length self.now.answers ≤ most_answers }
     {
         self.answers.as_slice()
     }

@@ -7,10 +7,10 @@ use fields::refusal::Refusal;
 use rules::outcome::Performed;
 use std::fmt;
 
-// Three cases that differ in what was done, and a print of their own, which a `Result` could not be given here.
+/// What handling the bytes of a message came to.
 #[derive(Clone, Copy, PartialEq, Eq, Debug)]
 pub enum Handled {
-    /// The answer buffer or the digit strip is too short: nothing was done, and nothing was written.
+    /// The answer buffer or the digit strip is too short: nothing was done or written.
     NoRoom,
     /// The bytes hold no message: a short answer was written.
     Short(Refusal),

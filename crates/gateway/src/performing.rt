@@ -1,22 +1,23 @@
-//! The gateway: its books, the host behind it, performing a message, and handling one from bytes to bytes.
+//! The gateway: its books, the host behind it, performing a message, and handling one from bytes to
+//! bytes.
 ghost use Rattle.std.specs.Prelude.{◌≡◌, IfOk, IfErr, length};
 ghost use Rattle.rules.specs.Ledger.{no_ledger};
-ghost use Rattle.law.specs.Carried.{BeginsLaw, CarriesLaw};
+ghost use Rattle.law.specs.Repeats.{full};
+ghost use Rattle.law.specs.Carried.{BeginsLaw, CarriesLaw, spelling};
 ghost use Rattle.wire.specs.Answer.{full_into};
 ghost use Rattle.wire.specs.Buffer.{over_front};
-ghost use Rattle.law.specs.History.{opened, spelling};
+ghost use Rattle.law.specs.History.{opened};
 ghost use Rattle.gateway.specs.Handling.{Handles, HandlesLaw, answer_to, given_by, no_room};
-ghost use Rattle.law.specs.Reached.{full};
 ghost use Rattle.gateway.specs.Performing.{Performs};
 
 use crate::books::Books;
 use crate::handled::Handled;
 use host::Host;
 use rules::batch::Batch;
-use rules::outcome::Performed;
+use rules::outcome::{Outcome, Performed};
 use rules::plan::Plan;
 use rules::purchase::Purchase;
-use rules::remembered::Remembered;
+use rules::remembered::{Recalled, Remembered};
 use std::alloc::{AllocFailed, Global};
 use wire::answer::{Answer, FULL_LENGTH, write_full, write_short};
 use wire::message::Fields;
@@ -44,6 +45,10 @@ fn answer_to(m: &Fields, performed: Performed) -> Answer
 }
 
 /// A gateway over a host. Neither its books nor its host can be written from outside.
+///
+/// The law over runs stands of it: `new` begins it over a host that holds nothing, and `perform`
+/// and `handle` carry it from any history that leads to the gateway to the longer one. That a
+/// history leads to the gateway (`Reached`) is the invariant by which the law is carried.
 #[derive(Drop)]
 pub struct Gateway<H> {
     books: Books,
@@ -51,7 +56,7 @@ pub struct Gateway<H> {
 }
 
 impl<H: Host> Gateway<H> {
-    /// A gateway with empty books; where there is no memory for them the host is handed back.
+    /// A gateway with empty books. If there is no memory for them, the host is returned.
     pub fn new(heap: Global, host: H) -> Result<Gateway<H>, AllocFailed<H>>
         ensures books { IfOk result (λ g. g.books ≡ no_ledger) }
         ensures host { IfOk result (λ g. g.host ≡ host) }
@@ -64,14 +69,23 @@ impl<H: Host> Gateway<H> {
         }
     }
 
-    /// Performs an opened message and uses it up: it is answered, and moves books and host, as the rules say. It counts as
-    /// handling the message's bytes, and carries the law over runs.
+    /// Performs an opened message and uses it up: it is answered, and moves books and host, as the
+    /// rules say. It counts as handling the message's bytes, and carries the law over runs.
     pub fn perform(&mut self, message: Opened) -> Performed
-        ensures rules { Performs H.Host message.fields self.old.books self.old.host result self.new.books self.new.host }
-        ensures law { CarriesLaw H.Host.held (spelling message.fields) (full result) self.old.books self.old.host self.new.books self.new.host }
+        ensures rules { Performs H.Host message.fields self.old.books self.old.host
+            result self.new.books self.new.host }
+        ensures law { CarriesLaw H.Host.held (spelling message.fields) (full result)
+            self.old.books self.old.host self.new.books self.new.host }
     {
+        let silent_at = match self.books.recall(&message) {
+            Recalled::Answered(answer) => return answer,
+            Recalled::Used => {
+                return Performed::refused(&message.fields(), Outcome::RequestNumberUsed);
+            }
+            Recalled::Open(silent_at) => silent_at,
+        };
         let found = self.books.look_up(&message);
-        match found.plan(&message) {
+        match found.plan(&message, silent_at) {
             Plan::Answer(answer) => answer,
             Plan::Commit(change) => self.books.commit(change),
             Plan::Put(put) => {
@@ -84,9 +98,12 @@ impl<H: Host> Gateway<H> {
 
     /// A message is performed, and its full answer written.
     fn answer_full(&mut self, message: Opened, answer: &mut [u8]) -> Performed
-        ensures after { answer.new ≡ over_front (full_into (length answer.old) (answer_to message.fields result)) answer.old }
-        ensures rules { Performs H.Host message.fields self.old.books self.old.host result self.new.books self.new.host }
-        ensures law { CarriesLaw H.Host.held (spelling message.fields) (full result) self.old.books self.old.host self.new.books self.new.host }
+        ensures after { answer.new ≡ over_front
+            (full_into (length answer.old) (answer_to message.fields result)) answer.old }
+        ensures rules { Performs H.Host message.fields self.old.books self.old.host
+            result self.new.books self.new.host }
+        ensures law { CarriesLaw H.Host.held (spelling message.fields) (full result)
+            self.old.books self.old.host self.new.books self.new.host }
     {
         let m = message.fields();
         let performed = self.perform(message);
@@ -94,11 +111,15 @@ impl<H: Host> Gateway<H> {
         performed
     }
 
-    /// Handles the bytes of a message: opens them on the strip, performs the message, and writes its answer into the front of
-    /// the answer buffer. A buffer under 24 bytes or a strip under 19 is refused first, and everything stays as it was.
+    /// Handles the bytes of a message: opens them on the strip, performs the message, and writes
+    /// its answer into the front of the answer buffer. A buffer under 24 bytes or a strip under 19
+    /// is refused first, and everything stays as it was.
     pub fn handle(&mut self, message: &[u8], strip: &mut [u8], answer: &mut [u8]) -> Handled
-        ensures rules { Handles H.Host (no_room answer.old strip.old) (opened message.now) self.old.books self.old.host answer.old strip.old result self.new.books self.new.host answer.new strip.new }
-        ensures law { HandlesLaw (no_room answer.old strip.old) H.Host.held message.now (given_by result) self.old.books self.old.host self.new.books self.new.host }
+        ensures rules { Handles H.Host self.old.books self.old.host answer.old strip.old
+            result self.new.books self.new.host answer.new strip.new
+            (no_room answer.old strip.old) (opened message.now) }
+        ensures law { HandlesLaw (no_room answer.old strip.old) H.Host.held message.now
+            (given_by result) self.old.books self.old.host self.new.books self.new.host }
     {
         if lacks_room(answer, strip) {
             return Handled::NoRoom;

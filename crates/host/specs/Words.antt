@@ -1,4 +1,4 @@
--- The words that are printed for each answer.
+-- The words that are printed for each reply.
 use Rattle.std.specs.Prelude.{ℕ, List, ◌++◌, codes, decimal}
 use Rattle.host.specs.declared.PutReply.{PutReply}
 use Rattle.host.specs.declared.PutReply.TheVariants.{Done, Refused, Silent}

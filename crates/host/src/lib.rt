@@ -9,10 +9,17 @@ ghost use Rattle.std.specs.Prelude.{Some};
 
 use std::fmt;
 
-pub type Card = u64;
+/// A card. Two cards are the same if their numbers are.
+#[derive(Clone, Copy, PartialEq, Eq, Debug)]
+pub struct Card {
+    /// The number on the card, read as one decimal number.
+    pub number: u64,
+}
 
+/// What a host knows a purchase by.
 pub type Reference = u64;
 
+/// An amount of money in pence.
 pub type Amount = u64;
 
 /// What a hold stands under: a card, and the reference of the purchase that it is held for.
@@ -25,31 +32,38 @@ pub struct Pair {
 /// What becomes of a call on its way to the host and back.
 #[derive(Clone, Copy, PartialEq, Eq, Debug)]
 pub enum Fate {
+    /// The host hears the call, and its reply comes back.
     Heard,
+    /// The host hears nothing of the call, and no reply comes.
     LostGoing,
+    /// The host hears the call and does as it would otherwise, and its reply is lost.
     LostReturning,
 }
 
-/// What a put answers.
-// No Result: a refusal and silence are answers like done, and each prints itself as only a type of this crate can.
+/// What a host replies to a put.
 #[derive(Clone, Copy, PartialEq, Eq, Debug)]
 pub enum PutReply {
+    /// The amount asked for is held now.
     Done,
+    /// The host did not raise the hold: what is held is as before.
     Refused,
+    /// No reply came: what is held is as before or as asked for.
     Silent,
 }
 
-/// What a read answers.
-// No Option: it prints itself, which only a type of this crate can.
+/// What a host replies to a read.
 #[derive(Clone, Copy, PartialEq, Eq, Debug)]
 pub enum ReadReply {
+    /// So much is held.
     Holds(Amount),
+    /// No reply came.
     Silent,
 }
 
 /// A host. The first four ghost members are its meaning, worked out from what it contains now; the
 /// fates and the assents after a call are free, and every amount held is not. The last two say what
-/// exactly one call makes of the host, so that a caller can promise that it made this one and no other.
+/// exactly one call makes of the host, so that a caller can promise that it made this one and no
+/// other.
 pub trait Host {
     ghost held: { Self → Holdings };
 
@@ -59,21 +73,22 @@ pub trait Host {
 
     ghost read_fate: { Self → ReadFates };
 
-    // the host before one put for a card under a reference of an amount, its answer, and the host after
+    // the host before one put of an amount for a pair, its reply, and the host after
     ghost put_step: { PutSteps Self };
 
-    // the host before one read for a card under a reference, its answer, and the host after
+    // the host before one read for a pair, its reply, and the host after
     ghost read_step: { ReadSteps Self };
 
     /// Asks that the amount held for the pair become this one.
     fn put(&mut self, pair: Pair, amount: Amount) -> PutReply
-        ensures means { PutMeans (put_fate self.old) (held self.old) (assent self.old) (held self.new) pair.card pair.reference amount result }
-        ensures step { put_step self.old pair.card pair.reference amount result self.new };
+        ensures means { PutMeans (put_fate self.old) (held self.old) (assent self.old)
+            (held self.new) pair amount result }
+        ensures step { put_step self.old pair amount result self.new };
 
     /// Asks what is held for the pair.
     fn read(&mut self, pair: Pair) -> ReadReply
-        ensures means { ReadMeans (read_fate self.old) (held self.old) (held self.new) pair.card pair.reference result }
-        ensures step { read_step self.old pair.card pair.reference result self.new };
+        ensures means { ReadMeans (read_fate self.old) (held self.old) (held self.new) pair result }
+        ensures step { read_step self.old pair result self.new };
 }
 
 impl fmt::Display for PutReply {

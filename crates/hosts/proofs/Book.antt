@@ -7,8 +7,9 @@ use Rattle.std.proofs.lemmas.Bool.Decides.{nat_tests}
 use Rattle.std.proofs.lemmas.List.Folds.{find_past}
 use Rattle.rows.specs.First.{first_with, Found}
 use Rattle.rows.proofs.First.{found_of_first, none_of_first, row_found, row_none, row_set_here, row_map_other, row_map_none}
-use Rattle.host.specs.Parts.{CardNumber, ReferenceNumber, Pence, HoldsNothing, SameHeld, same_pair}
+use Rattle.host.specs.Parts.{Pence, HoldsNothing, SameHeld, same_pair}
 use Rattle.host.specs.Meaning.{grants, held_after}
+use Rattle.host.specs.declared.Pair.{Pair}
 use Rattle.host.proofs.Meaning.{held_by_pair}
 use Rattle.hosts.specs.Book.{is_free, is_hold, free_hold, freed, amount_of, held_in, place_for, PlacedAt, book_assents, set_at, written}
 use Rattle.hosts.specs.Keeper.{granted}
@@ -16,34 +17,34 @@ use Rattle.hosts.specs.declared.account_book.Account.{Account}
 use Rattle.hosts.specs.declared.account_book.Hold.{Hold}
 
 -- a row stands for one pair at most
-one_pair : (card card' : CardNumber) (reference reference' : ReferenceNumber) (hold : Hold) → same_pair card' reference' card reference ≡ false → is_hold card reference hold ≡ true → is_hold card' reference' hold ≡ false
-one_pair card card' reference reference' hold other stands = grind (arith, nat_tests)
+one_pair : (pair pair' : Pair) (hold : Hold) → same_pair pair' pair ≡ false → is_hold pair hold ≡ true → is_hold pair' hold ≡ false
+one_pair pair pair' hold other stands = grind (arith, nat_tests)
 
-free_stands_not : (card : CardNumber) (reference : ReferenceNumber) (hold : Hold) → is_free hold ≡ true → is_hold card reference hold ≡ false
-free_stands_not card reference hold free = grind (arith, nat_tests)
+free_stands_not : (pair : Pair) (hold : Hold) → is_free hold ≡ true → is_hold pair hold ≡ false
+free_stands_not pair hold free = grind (arith, nat_tests)
 
-new_stands : (card : CardNumber) (reference : ReferenceNumber) (amount : Pence) → eqb amount 0 ≡ false → is_hold card reference (record { card = card; reference = reference; amount = amount }) ≡ true
-new_stands card reference amount some = grind (arith, nat_tests)
+new_stands : (pair : Pair) (amount : Pence) → eqb amount 0 ≡ false → is_hold pair (record { pair = pair; amount = amount }) ≡ true
+new_stands pair amount some = grind (arith, nat_tests)
 
-module _ (holds : List Hold) (card : CardNumber) (reference : ReferenceNumber) where
+module _ (holds : List Hold) (pair : Pair) where
   -- the place for the pair is its first row, or the first free one where it has none
   abbrev Placed : ℕ → Type 0
   Placed place =
-      Found (is_hold card reference) holds place
-      ⊎ (AllWithin (λ hold. is_hold card reference hold ≡ false) holds 0 (length holds) × Found is_free holds place)
+      Found (is_hold pair) holds place
+      ⊎ (AllWithin (λ hold. is_hold pair hold ≡ false) holds 0 (length holds) × Found is_free holds place)
 
-  place_cases : (own : Option ℕ) → first_with (is_hold card reference) holds ≡ own → (place : ℕ) → option_or own (first_with is_free holds) ≡ Some place → Placed place
-  place_cases None none place e = inr (none_of_first (is_hold card reference) holds none, found_of_first is_free holds place e)
-  place_cases (Some own) some place e = inl (found_of_first (is_hold card reference) holds place (some ∙ e))
+  place_cases : (own : Option ℕ) → first_with (is_hold pair) holds ≡ own → (place : ℕ) → option_or own (first_with is_free holds) ≡ Some place → Placed place
+  place_cases None none place e = inr (none_of_first (is_hold pair) holds none, found_of_first is_free holds place e)
+  place_cases (Some own) some place e = inl (found_of_first (is_hold pair) holds place (some ∙ e))
 
-  placed : (place : ℕ) → place_for holds card reference ≡ Some place → Placed place
-  placed place e = place_cases (first_with (is_hold card reference) holds) refl place e
+  placed : (place : ℕ) → place_for holds pair ≡ Some place → Placed place
+  placed place e = place_cases (first_with (is_hold pair) holds) refl place e
 
   -- so what is held stands at the place
-  in_placed : (place : ℕ) (d : Hold) → Placed place → held_in holds card reference ≡ (get_or holds place d).amount
-  in_placed place d (inl own) = ap amount_of (row_found (is_hold card reference) holds place d own)
+  in_placed : (place : ℕ) (d : Hold) → Placed place → held_in holds pair ≡ (get_or holds place d).amount
+  in_placed place d (inl own) = ap amount_of (row_found (is_hold pair) holds place d own)
   in_placed place d (inr free) =
-      ap amount_of (row_none (is_hold card reference) holds free.0) ∙ sym (eqb-true (get_or holds place d).amount 0 (free.1.passes d))
+      ap amount_of (row_none (is_hold pair) holds free.0) ∙ sym (eqb-true (get_or holds place d).amount 0 (free.1.passes d))
 
   within_placed : (place : ℕ) → Placed place → place < length holds
   within_placed place (inl own) = own.within
@@ -53,97 +54,97 @@ module _ (holds : List Hold) (card : CardNumber) (reference : ReferenceNumber) w
   no_own None is = refl
   no_own (Some own) is = absurd (cc)
 
-  pub placed_at : (answer : Option ℕ) → answer ≡ place_for holds card reference → PlacedAt holds card reference answer
+  pub placed_at : (answer : Option ℕ) → answer ≡ place_for holds pair → PlacedAt holds pair answer
   placed_at answer is = record {
     place = is;
     within = λ place here. within_placed place (placed place (sym is ∙ here));
     held = λ place d here. in_placed place d (placed place (sym is ∙ here));
-    nothing = λ none. ap amount_of (row_none (is_hold card reference) holds (none_of_first (is_hold card reference) holds (no_own (first_with (is_hold card reference) holds) (sym is ∙ none))));
+    nothing = λ none. ap amount_of (row_none (is_hold pair) holds (none_of_first (is_hold pair) holds (no_own (first_with (is_hold pair) holds) (sym is ∙ none))));
   }
 
   -- a done put above 0 has a place
-  has_place : (assent : Bool) (amount : Pence) → (assent ≡ true → is_some (place_for holds card reference) ≡ true) → eqb amount 0 ≡ false → grants (held_in holds card reference) assent amount ≡ true → is_some (place_for holds card reference) ≡ true
-  has_place assent amount room some granted = by_row (first_with (is_hold card reference) holds) refl
+  has_place : (assent : Bool) (amount : Pence) → (assent ≡ true → is_some (place_for holds pair) ≡ true) → eqb amount 0 ≡ false → grants (held_in holds pair) assent amount ≡ true → is_some (place_for holds pair) ≡ true
+  has_place assent amount room some granted = by_row (first_with (is_hold pair) holds) refl
     where
-      by_row : (own : Option ℕ) → first_with (is_hold card reference) holds ≡ own → is_some (place_for holds card reference) ≡ true
+      by_row : (own : Option ℕ) → first_with (is_hold pair) holds ≡ own → is_some (place_for holds pair) ≡ true
       by_row (Some place) e = rw e refl
       by_row None e =
-          let nothing : held_in holds card reference ≡ 0 = ap amount_of (row_none (is_hold card reference) holds (none_of_first (is_hold card reference) holds e)) in
+          let nothing : held_in holds pair ≡ 0 = ap amount_of (row_none (is_hold pair) holds (none_of_first (is_hold pair) holds e)) in
           let raised : leb amount 0 || assent ≡ true = rw nothing at granted in
           room (grind (arith, nat_tests))
 
   module _ (amount : Pence) where
     abbrev new : Hold
-    new = record { card = card; reference = reference; amount = amount }
+    new = record { pair = pair; amount = amount }
 
-    set_here : (place : ℕ) → Placed place → eqb amount 0 ≡ false → held_in (set holds place new) card reference ≡ amount
+    set_here : (place : ℕ) → Placed place → eqb amount 0 ≡ false → held_in (set holds place new) pair ≡ amount
     set_here place (inl own) some =
-        ap amount_of (row_set_here (is_hold card reference) holds place new own.within own.none_before (new_stands card reference amount some))
+        ap amount_of (row_set_here (is_hold pair) holds place new own.within own.none_before (new_stands pair amount some))
     set_here place (inr free) some =
-        ap amount_of (row_set_here (is_hold card reference) holds place new free.1.within (λ k d low high. free.0 k d low (omega (arith, free.1.within))) (new_stands card reference amount some))
+        ap amount_of (row_set_here (is_hold pair) holds place new free.1.within (λ k d low high. free.0 k d low (omega (arith, free.1.within))) (new_stands pair amount some))
 
-    set_elsewhere : (place : ℕ) → Placed place → (card' : CardNumber) (reference' : ReferenceNumber) → same_pair card' reference' card reference ≡ false → held_in (set holds place new) card' reference' ≡ held_in holds card' reference'
-    set_elsewhere place stood card' reference' other =
-        ap amount_of (find_past (is_hold card' reference') holds place new new (was stood) (grind (arith, nat_tests)))
+    set_elsewhere : (place : ℕ) → Placed place → (pair' : Pair) → same_pair pair' pair ≡ false → held_in (set holds place new) pair' ≡ held_in holds pair'
+    set_elsewhere place stood pair' other =
+        ap amount_of (find_past (is_hold pair') holds place new new (was stood) (grind (arith, nat_tests)))
       where
-        was : Placed place → is_hold card' reference' (get_or holds place new) ≡ false
-        was (inl own) = one_pair card card' reference reference' (get_or holds place new) other (own.passes new)
-        was (inr free) = free_stands_not card' reference' (get_or holds place new) (free.1.passes new)
+        was : Placed place → is_hold pair' (get_or holds place new) ≡ false
+        was (inl own) = one_pair pair pair' (get_or holds place new) other (own.passes new)
+        was (inr free) = free_stands_not pair' (get_or holds place new) (free.1.passes new)
 
-  cleared : (hold : Hold) → is_hold card reference (freed card reference hold) ≡ false
-  cleared hold = at (is_hold card reference hold) refl
+  cleared : (hold : Hold) → is_hold pair (freed pair hold) ≡ false
+  cleared hold = at (is_hold pair hold) refl
     where
-      at : (stands : Bool) → is_hold card reference hold ≡ stands → is_hold card reference (cond stands free_hold hold) ≡ false
+      at : (stands : Bool) → is_hold pair hold ≡ stands → is_hold pair (cond stands free_hold hold) ≡ false
       at true e = refl
       at false e = e
 
-  free_here : held_in (map (freed card reference) holds) card reference ≡ 0
-  free_here = ap amount_of (row_map_none (is_hold card reference) (freed card reference) cleared holds)
+  free_here : held_in (map (freed pair) holds) pair ≡ 0
+  free_here = ap amount_of (row_map_none (is_hold pair) (freed pair) cleared holds)
 
-  free_elsewhere : (card' : CardNumber) (reference' : ReferenceNumber) → same_pair card' reference' card reference ≡ false → held_in (map (freed card reference) holds) card' reference' ≡ held_in holds card' reference'
-  free_elsewhere card' reference' other =
-      ap amount_of (row_map_other (is_hold card' reference') (freed card reference) keeps fails holds)
+  free_elsewhere : (pair' : Pair) → same_pair pair' pair ≡ false → held_in (map (freed pair) holds) pair' ≡ held_in holds pair'
+  free_elsewhere pair' other =
+      ap amount_of (row_map_other (is_hold pair') (freed pair) keeps fails holds)
     where
-      keeps : (hold : Hold) → is_hold card' reference' hold ≡ true → freed card reference hold ≡ hold
+      keeps : (hold : Hold) → is_hold pair' hold ≡ true → freed pair hold ≡ hold
       keeps hold stands =
-          let apart : is_hold card reference hold ≡ false = grind (arith, nat_tests) in
-          cond-false (is_hold card reference hold) free_hold hold apart
+          let apart : is_hold pair hold ≡ false = grind (arith, nat_tests) in
+          cond-false (is_hold pair hold) free_hold hold apart
 
-      fails : (hold : Hold) → is_hold card' reference' hold ≡ false → is_hold card' reference' (freed card reference hold) ≡ false
-      fails hold e = cond_both (is_hold card reference hold) free_hold hold (λ h. is_hold card' reference' h ≡ false) (λ _. refl) (λ _. e)
+      fails : (hold : Hold) → is_hold pair' hold ≡ false → is_hold pair' (freed pair hold) ≡ false
+      fails hold e = cond_both (is_hold pair hold) free_hold hold (λ h. is_hold pair' h ≡ false) (λ _. refl) (λ _. e)
 
   -- a done put
-  written_here : (amount : Pence) → (eqb amount 0 ≡ false → is_some (place_for holds card reference) ≡ true) → held_in (written holds card reference amount) card reference ≡ amount
+  written_here : (amount : Pence) → (eqb amount 0 ≡ false → is_some (place_for holds pair) ≡ true) → held_in (written holds pair amount) pair ≡ amount
   written_here amount room = by_amount (eqb amount 0) refl
     where
-      by_place : eqb amount 0 ≡ false → (place : Option ℕ) → place_for holds card reference ≡ place → held_in (set_at place (new amount) holds) card reference ≡ amount
+      by_place : eqb amount 0 ≡ false → (place : Option ℕ) → place_for holds pair ≡ place → held_in (set_at place (new amount) holds) pair ≡ amount
       by_place some (Some place) e = set_here amount place (placed place e) some
       by_place some None e = absurd (both_ways _ (ap is_some e) (room some))
 
-      by_amount : (none : Bool) → eqb amount 0 ≡ none → held_in (cond none (map (freed card reference) holds) (set_at (place_for holds card reference) (new amount) holds)) card reference ≡ amount
+      by_amount : (none : Bool) → eqb amount 0 ≡ none → held_in (cond none (map (freed pair) holds) (set_at (place_for holds pair) (new amount) holds)) pair ≡ amount
       by_amount true e = free_here ∙ sym (eqb-true amount 0 e)
-      by_amount false e = by_place e (place_for holds card reference) refl
+      by_amount false e = by_place e (place_for holds pair) refl
 
-  written_elsewhere : (amount : Pence) (card' : CardNumber) (reference' : ReferenceNumber) → same_pair card' reference' card reference ≡ false → held_in (written holds card reference amount) card' reference' ≡ held_in holds card' reference'
-  written_elsewhere amount card' reference' other = by_amount (eqb amount 0)
+  written_elsewhere : (amount : Pence) (pair' : Pair) → same_pair pair' pair ≡ false → held_in (written holds pair amount) pair' ≡ held_in holds pair'
+  written_elsewhere amount pair' other = by_amount (eqb amount 0)
     where
-      by_place : (place : Option ℕ) → place_for holds card reference ≡ place → held_in (set_at place (new amount) holds) card' reference' ≡ held_in holds card' reference'
-      by_place (Some place) e = set_elsewhere amount place (placed place e) card' reference' other
+      by_place : (place : Option ℕ) → place_for holds pair ≡ place → held_in (set_at place (new amount) holds) pair' ≡ held_in holds pair'
+      by_place (Some place) e = set_elsewhere amount place (placed place e) pair' other
       by_place None e = refl
 
-      by_amount : (none : Bool) → held_in (cond none (map (freed card reference) holds) (set_at (place_for holds card reference) (new amount) holds)) card' reference' ≡ held_in holds card' reference'
-      by_amount true = free_elsewhere card' reference' other
-      by_amount false = by_place (place_for holds card reference) refl
+      by_amount : (none : Bool) → held_in (cond none (map (freed pair) holds) (set_at (place_for holds pair) (new amount) holds)) pair' ≡ held_in holds pair'
+      by_amount true = free_elsewhere pair' other
+      by_amount false = by_place (place_for holds pair) refl
 
 -- so what is written, if it was granted, holds the amount for the pair, and nothing else moves
-pub written_holds : (accounts : List Account) (holds after : List Hold) (card : CardNumber) (reference : ReferenceNumber) (amount : Pence) → granted (held_in holds) (book_assents accounts holds) card reference amount ≡ true → after ≡ written holds card reference amount → SameHeld (held_in after) (held_after (held_in holds) card reference amount)
-written_holds accounts holds after card reference amount may rows =
+pub written_holds : (accounts : List Account) (holds after : List Hold) (pair : Pair) (amount : Pence) → granted (held_in holds) (book_assents accounts holds) pair amount ≡ true → after ≡ written holds pair amount → SameHeld (held_in after) (held_after (held_in holds) pair amount)
+written_holds accounts holds after pair amount may rows =
     rw rows
-    (held_by_pair (held_in holds) (held_in (written holds card reference amount)) card reference amount
-    (written_here holds card reference amount (λ some. has_place holds card reference (book_assents accounts holds card reference amount) amount (λ assent. (and_parts _ _ assent).1) some may))
-    (written_elsewhere holds card reference amount))
+    (held_by_pair (held_in holds) (held_in (written holds pair amount)) pair amount
+    (written_here holds pair amount (λ some. has_place holds pair (book_assents accounts holds pair amount) amount (λ assent. (and_parts _ _ assent).1) some may))
+    (written_elsewhere holds pair amount))
 
 -- rows that are all free hold nothing
 pub free_holds_nothing : (n : ℕ) → HoldsNothing (held_in (replicate n free_hold))
-free_holds_nothing zero card reference = refl
-free_holds_nothing (suc n) card reference = free_holds_nothing n card reference
+free_holds_nothing zero pair = refl
+free_holds_nothing (suc n) pair = free_holds_nothing n pair

@@ -1,67 +1,54 @@
 //! A host that keeps holds against the balances of accounts.
 ghost use Rattle.std.specs.Prelude.{◌≡◌, ◌+◌, map, length, replicate, is_some, nat_le};
 ghost use Rattle.host.specs.Parts.{HoldsNothing, heard_puts, heard_reads};
-ghost use Rattle.hosts.specs.Book.{PlacedAt, free_hold, freed, has_key, is_account, other_amount, other_holds, place_for, written};
-ghost use Rattle.hosts.specs.BookHost.{BookPutStep, BookWritten, BookServes, book_assent, book_held};
+ghost use Rattle.hosts.specs.Book.{PlacedAt, place_for, other_holds};
+ghost use Rattle.hosts.specs.Book.{free_hold, freed, has_key, is_account, written};
+ghost use Rattle.hosts.specs.BookHost.{BookPutStep, BookWritten, BookServes};
+ghost use Rattle.hosts.specs.BookHost.{book_assent, book_held};
 ghost use Rattle.hosts.specs.Keeper.{HeardReadStep};
 
 use crate::keeper::{self, Keeper};
-use host::{Amount, Card, Host, Pair, PutReply, ReadReply, Reference};
+use host::{Amount, Card, Host, Pair, PutReply, ReadReply};
 use rows::{Keyed, search};
 
+/// What a card's holds are covered by. The first account with a card counts.
 #[derive(Clone, Copy, PartialEq, Eq, Debug)]
 pub struct Account {
     pub card: Card,
+    /// What the card's holds may come to, in pence.
     pub balance: Amount,
 }
 
-/// A row of the holds. One of amount 0 is free.
-// The rows are lent: one that is free shows it by its amount, and there is no Option round it.
+/// A row of the holds. One of amount 0 is free, and any other holds its amount for its pair.
 #[derive(Clone, Copy, PartialEq, Eq, Debug)]
 pub struct Hold {
-    pub card: Card,
-    pub reference: Reference,
+    pub pair: Pair,
+    /// In pence.
     pub amount: Amount,
 }
 
-/// What a hold is looked for by: the pair that it stands for, or that it is free.
-// No Option: a free row is asked for by its name, where `None` would read as no key at all.
+/// What a hold is looked for by.
 #[derive(Clone, Copy, PartialEq, Eq, Debug)]
 pub enum HoldKey {
+    /// The pair that it stands for.
     Of(Pair),
+    /// That it is free.
     Free,
 }
 
 impl Hold {
+    /// A free row, as the book writes it.
     pub const FREE: Hold = Hold {
-        card: 0,
-        reference: 0,
+        pair: Pair {
+            card: Card { number: 0 },
+            reference: 0,
+        },
         amount: 0,
     };
 
-    fn pair(&self) -> Pair
-        ensures { result ≡ record { card = self.now.card; reference = self.now.reference } }
-    {
-        Pair {
-            card: self.card,
-            reference: self.reference,
-        }
-    }
-
-    /// What the row counts for beside a hold of the pair: its amount, if it is the card's under another reference.
-    fn other_amount(&self, pair: Pair) -> Amount
-        ensures { result ≡ other_amount pair.card pair.reference self.now }
-    {
-        if self.card == pair.card && self.reference != pair.reference {
-            self.amount
-        } else {
-            0
-        }
-    }
-
     /// The row, or a free one where it stands for the pair.
     fn without(self, pair: Pair) -> Hold
-        ensures { result ≡ freed pair.card pair.reference self }
+        ensures { result ≡ freed pair self }
     {
         if self.has(&HoldKey::Of(pair)) {
             Hold::FREE
@@ -71,7 +58,6 @@ impl Hold {
     }
 }
 
-// Each kind of row says its own key, which for an account is the card, as it is for a voucher.
 impl Keyed for Account {
     type Key = Card;
 
@@ -89,7 +75,11 @@ impl Keyed for Hold {
 
     fn has(&self, key: &HoldKey) -> bool {
         match *key {
-            HoldKey::Of(pair) => self.amount != 0 && self.pair() == pair,
+            HoldKey::Of(pair) => {
+                self.pair.reference == pair.reference
+                    && self.pair.card == pair.card
+                    && self.amount != 0
+            }
             HoldKey::Free => self.amount == 0,
         }
     }
@@ -98,7 +88,7 @@ impl Keyed for Hold {
 /// Where a hold of the pair is written: its row, else the first free one.
 #[tactic(auto, using(rows::proofs::First::first_from_cases))]
 fn place_for(holds: &[Hold], pair: Pair) -> Option<usize>
-    ensures { result ≡ place_for holds.now pair.card pair.reference }
+    ensures { result ≡ place_for holds.now pair }
 {
     search(holds, &HoldKey::Of(pair)).or_else(|| search(holds, &HoldKey::Free))
 }
@@ -106,22 +96,22 @@ fn place_for(holds: &[Hold], pair: Pair) -> Option<usize>
 /// What the balance leaves once the amount and the card's holds under other references are taken
 /// from it, if it covers them.
 fn left_of(balance: Amount, holds: &[Hold], pair: Pair, amount: Amount) -> Option<Amount>
-    ensures { is_some result ≡ nat_le (amount + other_holds holds.now pair.card pair.reference) balance }
+    ensures { is_some result ≡ nat_le (amount + other_holds holds.now pair) balance }
 {
-    // they are taken one by one, since their sum may not fit its type
     let mut left = balance.checked_sub(amount)?;
     for hold in holds {
-        left = left.checked_sub(hold.other_amount(pair))?;
+        if hold.pair.card == pair.card && hold.pair.reference != pair.reference {
+            left = left.checked_sub(hold.amount)?;
+        }
     }
     Some(left)
 }
 
 /// Frees the row of the pair. A pair has at most one in a book that was made cleared; where a lent
 /// list had more, all go, so that nothing is held for the pair after.
-// The drawer's `clear` is this loop over rows of another type: one function of both would take a closure, and a clause on it.
 #[tactic(auto, using(crate::proofs::InPlace::map_turn))]
 fn release(holds: &mut [Hold], pair: Pair)
-    ensures { holds.new ≡ map (freed pair.card pair.reference) holds.old }
+    ensures { holds.new ≡ map (freed pair) holds.old }
 {
     for hold in holds.iter_mut() {
         *hold = hold.without(pair);
@@ -130,17 +120,13 @@ fn release(holds: &mut [Hold], pair: Pair)
 
 /// Writes the amount into the pair's row or the first free one; 0 frees the row.
 fn write(holds: &mut [Hold], pair: Pair, found: Option<usize>, amount: Amount)
-    requires { PlacedAt holds.old pair.card pair.reference found }
-    ensures { holds.new ≡ written holds.old pair.card pair.reference amount }
+    requires { PlacedAt holds.old pair found }
+    ensures { holds.new ≡ written holds.old pair amount }
 {
     if amount == 0 {
         release(holds, pair);
     } else if let Some(place) = found {
-        holds[place] = Hold {
-            card: pair.card,
-            reference: pair.reference,
-            amount,
-        };
+        holds[place] = Hold { pair, amount };
     }
 }
 
@@ -167,13 +153,17 @@ impl<'a> AccountBook<'a> {
     }
 
     /// What is held for the pair.
-    // The public name of the keepers' own word, which is not public.
+    #[tactic(auto, using(rows::proofs::First::stands_from_cases))]
     pub fn held(&self, pair: Pair) -> Amount
-        ensures { result ≡ book_held self.now pair.card pair.reference }
+        ensures { result ≡ book_held self.now pair }
     {
-        self.amount_held(pair, self.place(pair))
+        match search(self.holds, &HoldKey::Of(pair)) {
+            Some(place) => self.holds[place].amount,
+            None => 0,
+        }
     }
 
+    /// The rows of the holds, free ones included.
     pub fn holds(&self) -> &[Hold]
         ensures { result.now ≡ self.now.holds.now }
     {
@@ -220,7 +210,6 @@ impl Keeper for AccountBook<'_> {
     }
 }
 
-// `Host` is another crate's trait, so it can't be given to every `Keeper` at once.
 impl Host for AccountBook<'_> {
     ghost held = { book_held };
 
@@ -239,6 +228,6 @@ impl Host for AccountBook<'_> {
     }
 
     fn read(&mut self, pair: Pair) -> ReadReply {
-        keeper::read(self, pair)
+        ReadReply::Holds(self.held(pair))
     }
 }

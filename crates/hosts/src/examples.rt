@@ -1,12 +1,7 @@
-//! The worked examples of the account book and the voucher drawer, which the checker computes.
-ghost use Rattle.std.specs.Prelude.{◌≡◌};
+//! The worked examples of the account book and the voucher drawer, which the prover computes.
 ghost use Rattle.hosts.specs.Examples.{BookExample, DrawerExample};
 
-/// How many hosts have worked examples here; that the examples hold is what it promises.
-// A function of this name stands in `hosts` and in `layers`: each promises other examples, those of its own crate.
-pub fn examples_stand() -> usize
-    ensures count { result ≡ 2 }
+/// The examples hold: that is what it promises, and it does nothing.
+pub fn examples_stand()
     ensures hold { BookExample × DrawerExample }
-{
-    2
-}
+{}

@@ -1,20 +1,25 @@
 //! A host over prepaid vouchers, each good for one reference at a time.
 ghost use Rattle.std.specs.Prelude.{◌≡◌, map, Some};
 ghost use Rattle.host.specs.Parts.{HoldsNothing, heard_puts, heard_reads};
-ghost use Rattle.hosts.specs.Drawer.{FoundAt, changed, held_under, is_voucher, raisable, unused, vouchers_written};
-ghost use Rattle.hosts.specs.DrawerHost.{DrawerPutStep, DrawerWritten, DrawerServes, drawer_assent, drawer_held};
+ghost use Rattle.hosts.specs.Drawer.{FoundAt, is_voucher, held_under, raisable};
+ghost use Rattle.hosts.specs.Drawer.{changed, unused, vouchers_written};
+ghost use Rattle.hosts.specs.DrawerHost.{DrawerPutStep, DrawerWritten, DrawerServes};
+ghost use Rattle.hosts.specs.DrawerHost.{drawer_assent, drawer_held};
 ghost use Rattle.hosts.specs.Keeper.{HeardReadStep};
 
 use crate::keeper::{self, Keeper};
 use host::{Amount, Card, Host, Pair, PutReply, ReadReply, Reference};
 use rows::{Keyed, search};
 
-// The rows are lent: one that holds nothing shows it by held 0, and has no Option in it.
+/// A prepaid voucher. The first one with a card counts.
 #[derive(Clone, Copy, PartialEq, Eq, Debug)]
 pub struct Voucher {
     pub card: Card,
+    /// The most that it may hold, in pence.
     pub face: Amount,
+    /// The reference that it was last raised under, 0 before any.
     pub reference: Reference,
+    /// What it holds under that reference, in pence; it is free for any other while this is 0.
     pub held: Amount,
 }
 
@@ -66,7 +71,6 @@ impl Voucher {
     }
 }
 
-// Each kind of row says its own key, which for a voucher is the card, as it is for an account.
 impl Keyed for Voucher {
     type Key = Card;
 
@@ -80,7 +84,7 @@ impl Keyed for Voucher {
 /// Updates the first voucher with the card where it lies.
 fn change_voucher(vouchers: &mut [Voucher], pair: Pair, found: Option<usize>, amount: Amount)
     requires { FoundAt vouchers.old pair.card found }
-    ensures { vouchers.new ≡ vouchers_written vouchers.old pair.card pair.reference amount }
+    ensures { vouchers.new ≡ vouchers_written vouchers.old pair amount }
 {
     if let Some(place) = found {
         vouchers[place] = vouchers[place].changed(pair.reference, amount);
@@ -118,13 +122,13 @@ impl<'v> VoucherDrawer<'v> {
     }
 
     /// What is held for the pair.
-    // The public name of the keepers' own word, which is not public.
     pub fn held(&self, pair: Pair) -> Amount
-        ensures { result ≡ drawer_held self.now pair.card pair.reference }
+        ensures { result ≡ drawer_held self.now pair }
     {
         self.amount_held(pair, self.place(pair))
     }
 
+    /// The vouchers as they are now.
     pub fn vouchers(&self) -> &[Voucher]
         ensures { result.now ≡ self.now.vouchers.now }
     {
@@ -172,7 +176,6 @@ impl Keeper for VoucherDrawer<'_> {
     }
 }
 
-// `Host` is another crate's trait, so it can't be given to every `Keeper` at once.
 impl Host for VoucherDrawer<'_> {
     ghost held = { drawer_held };
 
@@ -191,6 +194,6 @@ impl Host for VoucherDrawer<'_> {
     }
 
     fn read(&mut self, pair: Pair) -> ReadReply {
-        keeper::read(self, pair)
+        ReadReply::Holds(self.held(pair))
     }
 }

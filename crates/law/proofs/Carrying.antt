@@ -13,10 +13,10 @@ use Rattle.wire.specs.declared.message.Fields.{Fields}
 use Rattle.rules.specs.Ledger.{Ledger, no_ledger}
 use Rattle.rules.specs.Rules.{Call, Reply, answer_of, books_after, call_of, held_after_call, no_call, put, read, reply_of}
 use Rattle.rules.specs.declared.outcome.Performed.{Performed}
-use Rattle.law.specs.Carried.{AnsweredAgain, BeginsLaw, CarriesLaw, Lawful}
-use Rattle.law.specs.History.{Entry, entry, opened, spelling}
-use Rattle.law.specs.Reached.{HandledByRules, Reached, Replies, full, short}
-use Rattle.law.specs.Stands.{RepeatsOf}
+use Rattle.law.specs.Repeats.{RepeatsOf, full}
+use Rattle.law.specs.Carried.{AnsweredAgain, BeginsLaw, CarriesLaw, Lawful, spelling}
+use Rattle.law.specs.History.{Entry, entry, opened, short}
+use Rattle.law.specs.Reached.{HandledByRules, Reached, Replies}
 use Rattle.law.proofs.Law.{law_over_runs}
 
 -- an opened message by its own bytes
@@ -39,10 +39,10 @@ own_spelling bytes m are is = own_bytes bytes are m is
 -- a host's reply to a call, and what it holds after, are among those that its meaning allows
 pub replies_of : (fates : PutFates) (read_fates : ReadFates) (held held' : Holdings) (assents : Assents) (call : Call) → SameHeld held' (held_after_call fates held assents call) → Replies call (reply_of fates read_fates held assents call) held held'
 replies_of fates read_fates held held' assents no_call holds = (refl, holds)
-replies_of fates read_fates held held' assents (put card reference amount) holds =
-    (put_answer fates held assents card reference amount, fates, assents, refl, put_means fates held assents held' card reference amount _ refl holds)
-replies_of fates read_fates held held' assents (read card reference) holds =
-    (read_answer read_fates held card reference, read_fates, refl, read_means read_fates held held' card reference _ refl holds)
+replies_of fates read_fates held held' assents (put pair amount) holds =
+    (put_answer fates held assents pair amount, fates, assents, refl, put_means fates held assents held' pair amount _ refl holds)
+replies_of fates read_fates held held' assents (read pair) holds =
+    (read_answer read_fates held pair, read_fates, refl, read_means read_fates held held' pair _ refl holds)
 
 -- the law stands of what is reached
 pub lawful : {H : Type 0} (held : H → Holdings) (h : List Entry) (l : Ledger) (host : H) → Reached h l (held host) → Lawful held h l host
@@ -59,8 +59,8 @@ module _ {H : Type 0} (held : H → Holdings) (bytes : List ℕ) (m : Fields) (a
       (l, held host, reached, are, subst (λ o. HandledByRules o (full a) l (held host) l' (held host')) (sym is) (record { reply = reply; called = called; answer = ap full answer; books = books }))
 
   again : (h : List Entry) → Reached h l (held host) → AnsweredAgain h bytes (full a) l host l' host'
-  again h reached last other given loud =
-      let r = subst (λ o. RepeatsOf o last l) is ((law_over_runs h l (held host) reached).repeats bytes last other given loud) in
+  again h reached other last given loud =
+      let r = subst (λ o. RepeatsOf o last l) is ((law_over_runs h l (held host) reached).repeats bytes other last given loud) in
       (ap full answer ∙ r.same_answer reply, books ∙ r.same_books reply, uncalled r.makes_no_call)
 
   pub carries : CarriesLaw held bytes (full a) l host l' host'
@@ -70,6 +70,6 @@ module _ {H : Type 0} (held : H → Holdings) (bytes : List ℕ) (m : Fields) (a
 pub carries_short : {H : Type 0} (held : H → Holdings) (bytes : List ℕ) (number : ℕ) → Bytes bytes → opened bytes ≡ Err number → (l l' : Ledger) (host host' : H) → l' ≡ l → host' ≡ host → CarriesLaw held bytes (short number) l host l' host'
 carries_short held bytes number are is l l' host host' books same h reached = record {
   lawful = lawful held _ l' host'
-      (l, held host, reached, are, subst (λ o. HandledByRules o (short number) l (held host) l' (held host')) (sym is) (record { answer = refl; books = books; same = λ card reference. ap (λ x. held x card reference) same }));
-  repeated = λ last other given loud. (subst (λ o. RepeatsOf o last l) is ((law_over_runs h l (held host) reached).repeats bytes last other given loud), books, same);
+      (l, held host, reached, are, subst (λ o. HandledByRules o (short number) l (held host) l' (held host')) (sym is) (record { answer = refl; books = books; same = λ pair. ap (λ x. held x pair) same }));
+  repeated = λ other last given loud. (subst (λ o. RepeatsOf o last l) is ((law_over_runs h l (held host) reached).repeats bytes other last given loud), books, same);
 }

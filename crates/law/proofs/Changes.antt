@@ -1,15 +1,17 @@
--- The amounts and the doubts of the books stay kept by a change of one purchase, and by one of answers only.
+-- The amounts and the doubts of the books stay kept by a change of one purchase, and by one of
+-- answers only.
 use Rattle.std.proofs.Common.{◌≡◌, ℕ, ◌≤◌, Bool, true, false, cond, ◌||◌, eqb, ◌⊎◌, List, Some, None, sym, refl, ap, ◌∙◌, subst, inl, inr}
 use Rattle.std.proofs.lemmas.Bool.{both_ways, cond-true, cond-false, true≢false}
 use Rattle.wire.specs.declared.message.Fields.{Fields}
 use Rattle.rules.specs.Ledger.{Ledger}
+use Rattle.rules.specs.MessageCard.{message_card}
 use Rattle.rules.specs.Rules.{is_silent}
 use Rattle.wire.specs.Bytes.{same_bytes}
 use Rattle.rules.specs.Same.{same_fields}
 use Rattle.rules.specs.declared.outcome.Performed.{Performed}
 use Rattle.rules.specs.declared.purchase.Purchase.{Purchase}
 use Rattle.rules.proofs.Ways.{recalled}
-use Rattle.law.specs.Stands.{booked_of}
+use Rattle.law.specs.Booked.{booked_of}
 use Rattle.rules.proofs.Sames.{fields_equal, fields_refl, same_from, sames_equal}
 use Rattle.law.proofs.Base.{unless}
 use Rattle.law.proofs.Invariants.{Kept, Silent}
@@ -31,7 +33,8 @@ kept_aside l l' kept same old new =
       one_doubt = λ n o s t e. kept.one_doubt n o (old n s) (old o t) e;
     }
 
--- after the message m was remembered with the answer a, a message that is remembered with 25 is m itself, or was before
+-- after the message m was remembered with the answer a, a message that is remembered with 25 is m
+-- itself, or was before
 abbrev SilentAfter : Ledger → Fields → Performed → Fields → Type 0
 SilentAfter l m a n = ((m ≡ n) × (is_silent a ≡ true)) ⊎ ((same_fields m n ≡ false) × Silent l n)
 
@@ -68,7 +71,8 @@ module _ (l l' : Ledger) (m : Fields) (a : Performed) (recalls : (n : Fields) �
           absurd (true≢false cc)
       still n s false e = silent_still n e s
 
--- a message changes its own purchase, and its answer is remembered: the purchase is in doubt after it just if the answer is 25
+-- a message changes its own purchase, and its answer is remembered: the purchase is in doubt after
+-- it just if the answer is 25
 pub record Change (l l' : Ledger) (m : Fields) (a : Performed) : Type 0 where
   pub recalls : (n : Fields) → recalled l' n ≡ cond (same_fields m n) (Some a) (recalled l n)
   pub elsewhere : (xid : List ℕ) → same_bytes m.xid xid ≡ false → booked_of l' xid ≡ booked_of l xid
@@ -79,7 +83,7 @@ pub record Change (l l' : Ledger) (m : Fields) (a : Performed) : Type 0 where
   pub doubts : (booked_of l' m.xid).doubt ≡ cond (is_silent a) (Some m.amount) None
   pub only_puts : is_silent a ≡ true → (eqb m.kind 1 || eqb m.kind 2) ≡ true
   pub uncaptured : is_silent a ≡ true → (booked_of l' m.xid).captured ≡ 0
-  pub card_the_same : is_silent a ≡ true → m.kind ≡ 1 → (booked_of l' m.xid).card ≡ m.card
+  pub card_the_same : is_silent a ≡ true → m.kind ≡ 1 → (booked_of l' m.xid).card ≡ message_card m
   pub below : is_silent a ≡ true → m.kind ≡ 2 → m.amount ≤ (booked_of l' m.xid).authorised
 
 -- an XID is that of the message, or has its purchase as before
@@ -129,8 +133,8 @@ module _ (l l' : Ledger) (m : Fields) (a : Performed) (kept : Kept l) (c : Chang
       by (inl e) = subst (λ x. P (booked_of l' x)) e here
       by (inr there) = subst P (sym there.1) (before xid)
 
-  -- after the change: what is remembered with 25 is an authorisation or its reversal, puts its purchase in doubt, and has its card;
-  -- a reversal asks no more than is authorised
+  -- after the change: what is remembered with 25 is an authorisation or its reversal, puts its
+  -- purchase in doubt, and has its card; a reversal asks no more than is authorised
   kind_after : (n : Fields) → SilentAfter l m a n → (eqb n.kind 1 || eqb n.kind 2) ≡ true
   kind_after n (inl here) = subst (λ o. (eqb o.kind 1 || eqb o.kind 2) ≡ true) here.0 (c.only_puts here.1)
   kind_after n (inr there) = kept.silent_kind n there.1
@@ -139,8 +143,8 @@ module _ (l l' : Ledger) (m : Fields) (a : Performed) (kept : Kept l) (c : Chang
   doubt_after n (inl here) = subst (λ o. (booked_of l' o.xid).doubt ≡ Some o.amount) here.0 (doubt_here here.1)
   doubt_after n (inr there) = ap (λ p. p.doubt) (booked_still n there.0 there.1) ∙ kept.silent_doubt n there.1
 
-  card_after : (n : Fields) → SilentAfter l m a n → n.kind ≡ 1 → (booked_of l' n.xid).card ≡ n.card
-  card_after n (inl here) is = subst (λ o. o.kind ≡ 1 → (booked_of l' o.xid).card ≡ o.card) here.0 (c.card_the_same here.1) is
+  card_after : (n : Fields) → SilentAfter l m a n → n.kind ≡ 1 → (booked_of l' n.xid).card ≡ message_card n
+  card_after n (inl here) is = subst (λ o. o.kind ≡ 1 → (booked_of l' o.xid).card ≡ message_card o) here.0 (c.card_the_same here.1) is
   card_after n (inr there) is = ap (λ p. p.card) (booked_still n there.0 there.1) ∙ kept.silent_card n there.1 is
 
   below_after : (n : Fields) → SilentAfter l m a n → n.kind ≡ 2 → n.amount ≤ (booked_of l' n.xid).authorised

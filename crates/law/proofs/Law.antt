@@ -1,8 +1,9 @@
 -- The law over runs: all that is kept from message to message, and what stands by it.
-use Rattle.std.proofs.Common.{◌≡◌, ℕ, suc, true, false, cond, ◌||◌, eqb, List, [], ◌∷◌, map, Some, Ok, Err, Result, sym, refl, ap, ◌∙◌, subst, inl, inr, ⊎_elim, arith}
+use Rattle.std.proofs.Common.{◌≡◌, ℕ, suc, true, false, cond, List, [], ◌∷◌, map, Some, Ok, Err, Result, sym, refl, ap, ◌∙◌, subst, inl, inr, ⊎_elim, arith}
 use Rattle.std.specs.Option.{option_map}
-use Rattle.std.proofs.lemmas.Bool.{eq-eqb, eqb-true, true≢false}
+use Rattle.std.proofs.lemmas.Bool.{eq-eqb, eqb-true}
 use Rattle.host.specs.Parts.{Holdings}
+use Rattle.host.specs.declared.Pair.{Pair}
 use Rattle.rows.specs.First.{first_with, row_with}
 use Rattle.wire.specs.RoundTrip.{Bytes}
 use Rattle.wire.specs.declared.message.Fields.{Fields}
@@ -11,13 +12,17 @@ use Rattle.rules.specs.Outcome.{outcome_code}
 use Rattle.rules.specs.Rules.{books_after}
 use Rattle.rules.specs.declared.purchase.Purchase.{Purchase}
 use Rattle.rules.proofs.Ways.{puts_no_inquiry}
-use Rattle.law.specs.History.{Entry, Given, InDoubt, IsPurchase, RepeatsAgree, ReversalsGranted, entry, fields_of, last_given, message_from, named, opened, purchases}
-use Rattle.law.specs.Reached.{HandledByRules, PerformedByRules, Reached, RefusedAtOpening, full}
-use Rattle.law.specs.Stands.{LawOverRuns, LawStands, RepeatsOf, booked_of, name_of}
+use Rattle.law.specs.Purchases.{InDoubt, IsPurchase, named, purchases}
+use Rattle.law.specs.Booked.{Booked, booked_of, name_of}
+use Rattle.law.specs.Repeats.{RepeatsOf, full}
+use Rattle.law.specs.History.{Entry, Given, NoInquiry, entry, last_given, opened}
+use Rattle.law.specs.Observed.{Observed, RepeatsAgree, ReversalsGranted}
+use Rattle.law.specs.Reached.{HandledByRules, PerformedByRules, Reached, RefusedAtOpening}
+use Rattle.law.specs.Stands.{LawOverRuns, LawStands}
 use Rattle.law.proofs.Base.{kind_of}
 use Rattle.law.proofs.Batches.{batched_refused, batched_start, batched_step}
 use Rattle.law.proofs.Granted.{granted_refused, granted_step}
-use Rattle.law.proofs.Holds.{holding_same, holding_start, holding_step}
+use Rattle.law.proofs.Holds.{holding_same, holding_start, holding_step, one_pair, one_purchase}
 use Rattle.law.proofs.Invariants.{Batched, Holding, IsRow, Kept, Known, Recalls, Shows, Silent, Sums, known, known_full, known_used}
 use Rattle.law.proofs.Keeps.{kept_start, kept_step}
 use Rattle.law.proofs.Memory.{recalls_refused, recalls_start, recalls_step, repeats_from}
@@ -45,8 +50,8 @@ start l held (empty, nothing) =
 
 module _ (h : List Entry) (bytes : List ℕ) (given : Given) (l₀ l : Ledger) (held₀ held : Holdings) (before : Everything h l₀ held₀) where
   -- what these bytes were last answered they are answered again
-  again : (o : Result Fields ℕ) → opened bytes ≡ o → (last : Given) → ((message_from bytes).kind ≡ 9 → ⊥) → last_given h bytes ≡ Some last → (last.code ≡ 25 → ⊥) → RepeatsOf o last l₀
-  again o is last other told loud = subst (λ x. RepeatsOf x last l₀) is (repeats_from h l₀ before.recalls bytes last other told loud)
+  again : (o : Result Fields ℕ) → opened bytes ≡ o → NoInquiry bytes → (last : Given) → last_given h bytes ≡ Some last → (last.code ≡ 25 → ⊥) → RepeatsOf o last l₀
+  again o is other last told loud = subst (λ x. RepeatsOf x last l₀) is (repeats_from h l₀ before.recalls bytes other last told loud)
 
   -- bytes that are not opened
   refused : (number : ℕ) → opened bytes ≡ Err number → Bytes bytes → RefusedAtOpening number given l₀ held₀ l held → Everything (entry bytes given ∷ h) l held
@@ -61,7 +66,7 @@ module _ (h : List Entry) (bytes : List ℕ) (given : Given) (l₀ l : Ledger) (
         sums = sums_refused h l₀ bytes number is before.sums;
         batched = batched_refused h l₀ bytes number is before.batched;
         granted = granted_refused h bytes number is before.granted;
-        agree = ((λ last other told loud. again (Err number) is last other told loud), before.agree);
+        agree = ((λ other last told loud. again (Err number) is other last told loud), before.agree);
       }))
 
   -- a message that is performed
@@ -73,12 +78,12 @@ module _ (h : List Entry) (bytes : List ℕ) (given : Given) (l₀ l : Ledger) (
       (record {
         kept = kept_step l₀ m p.reply held₀ held kind before.kept p.called;
         holding = holding_step l₀ m p.reply held₀ held kind before.kept before.holding p.called;
-        recalls = recalls_step h l₀ bytes m p.reply are is before.recalls;
+        recalls = recalls_step h l₀ bytes m p.reply held₀ held are is before.recalls p.called;
         shows = shows_step h l₀ bytes m p.reply held₀ held are is before.kept before.recalls before.shows p.called;
         sums = sums_step h l₀ bytes m p.reply held₀ held are is before.kept before.recalls before.shows before.sums p.called;
         batched = batched_step h l₀ bytes m p.reply held₀ held are is before.kept before.recalls before.batched p.called;
         granted = granted_step h l₀ bytes m p.reply held₀ held are is before.kept before.holding before.recalls before.granted p.called;
-        agree = ((λ last other told loud. (again (Ok m) is last other told loud).same_answer p.reply), before.agree);
+        agree = ((λ other last told loud. (again (Ok m) is other last told loud).same_answer p.reply), before.agree);
       }))
 
   -- any bytes
@@ -109,11 +114,11 @@ module _ (h : List Entry) (l : Ledger) (held : Holdings) (all : Everything h l h
   places : (xid : List ℕ) → option_map suc (first_with (of_xid xid) l.purchases) ≡ option_map suc (first_with (named xid) (purchases h))
   places xid = ap (option_map suc) (place_of_map xid l.purchases ∙ ap (first_with (named xid)) all.shows.same_purchases)
 
-  row_of : (xid : List ℕ) (card reference : ℕ) → IsPurchase h xid card reference → IsRow l xid card reference
-  row_of xid card reference is = record { by_card = cards xid ∙ is.by_card; by_place = places xid ∙ is.by_place }
+  row_of : (xid : List ℕ) (pair : Pair) → IsPurchase h xid pair → IsRow l xid pair
+  row_of xid pair is = record { by_card = cards xid ∙ is.by_card; by_place = places xid ∙ is.by_place }
 
-  purchase_of_row : (xid : List ℕ) (card reference : ℕ) → IsRow l xid card reference → IsPurchase h xid card reference
-  purchase_of_row xid card reference is = record { by_card = sym (cards xid) ∙ is.by_card; by_place = sym (places xid) ∙ is.by_place }
+  purchase_of_row : (xid : List ℕ) (pair : Pair) → IsRow l xid pair → IsPurchase h xid pair
+  purchase_of_row xid pair is = record { by_card = sym (cards xid) ∙ is.by_card; by_place = sym (places xid) ∙ is.by_place }
 
   -- a doubt of the books is one of the history
   doubt_told : (xid : List ℕ) (amount : ℕ) → (booked_of l xid).doubt ≡ Some amount → InDoubt h xid amount
@@ -122,14 +127,15 @@ module _ (h : List Entry) (l : Ledger) (held : Holdings) (all : Everything h l h
       let m = found.0 in
       let silent = found.1 in
       let spelled = all.recalls.spelled m silent.answer silent.is in
-      let says : message_from spelled.0 ≡ m = ap fields_of spelled.2 in
       let asks = all.kept.silent_kind m silent in
       let last = all.recalls.last spelled.0 m silent.answer spelled.1 spelled.2 (puts_no_inquiry m.kind asks) silent.is in
       record {
         bytes = spelled.0;
-        is_put = ap (λ x. eqb x.kind 1 || eqb x.kind 2) says ∙ asks;
-        for_xid = ap (λ x. x.xid) says ∙ found.2;
-        for_amount = ap (λ x. x.amount) says ∙ found.3;
+        message = m;
+        is_message = spelled.2;
+        is_put = asks;
+        for_xid = found.2;
+        for_amount = found.3;
         last_silent = ap (option_map (λ g. g.code)) last ∙ ap Some (eqb-true _ 25 silent.silent);
       }
 
@@ -142,26 +148,38 @@ module _ (h : List Entry) (l : Ledger) (held : Holdings) (all : Everything h l h
 
   -- and a doubt of the history is one of the books
   doubt_booked : (xid : List ℕ) (amount : ℕ) → InDoubt h xid amount → (booked_of l xid).doubt ≡ Some amount
-  doubt_booked xid amount is = by (opened is.bytes) refl
-    where
-      by : (o : Result Fields ℕ) → opened is.bytes ≡ o → (booked_of l xid).doubt ≡ Some amount
-      by (Err number) e = absurd (true≢false (sym (sym (ap (λ r. eqb (fields_of r).kind 1 || eqb (fields_of r).kind 2) e) ∙ is.is_put)))
-      by (Ok m) e =
-          let says : message_from is.bytes ≡ m = ap fields_of e in
-          let asks : (eqb m.kind 1 || eqb m.kind 2) ≡ true = sym (ap (λ x. eqb x.kind 1 || eqb x.kind 2) says) ∙ is.is_put in
-          let last = mapped_some (λ g. g.code) (last_given h is.bytes) 25 is.last_silent in
-          let knows = all.recalls.answers is.bytes m last.0 (all.recalls.only_bytes is.bytes last.0 last.1) e (puts_no_inquiry m.kind asks) last.1 in
-          ap (λ x. (booked_of l x).doubt) (sym is.for_xid ∙ ap (λ x. x.xid) says)
-          ∙ all.kept.silent_doubt m (silent_of m last.0 knows last.2)
-          ∙ ap Some (sym (ap (λ x. x.amount) says) ∙ is.for_amount)
+  doubt_booked xid amount is =
+      let m = is.message in
+      let last = mapped_some (λ g. g.code) (last_given h is.bytes) 25 is.last_silent in
+      let knows = all.recalls.answers is.bytes m last.0 (all.recalls.only_bytes is.bytes last.0 last.1) is.is_message (puts_no_inquiry m.kind is.is_put) last.1 in
+      ap (λ x. (booked_of l x).doubt) (sym is.for_xid)
+      ∙ all.kept.silent_doubt m (silent_of m last.0 knows last.2)
+      ∙ ap Some is.for_amount
 
-  -- what stands by all that
-  pub stands : LawStands h l held
-  stands = record {
-    held_rightly = λ xid card reference is.
-        ⊎_elim (λ exact. inl (exact ∙ all.shows.same_authorised xid)) (λ doubt. inr (doubt_told xid (held card reference) doubt))
-        (all.holding.own xid card reference (row_of xid card reference is));
-    nothing_else = λ card reference none. all.holding.other card reference (λ xid is. none xid (purchase_of_row xid card reference is));
+  -- what can be observed stands
+  observed : Observed h held
+  observed = record {
+    held_rightly = λ xid pair is.
+        ⊎_elim (λ exact. inl (exact ∙ all.shows.same_authorised xid)) (λ doubt. inr (doubt_told xid (held pair) doubt))
+        (all.holding.own xid pair (row_of xid pair is));
+    nothing_else = λ pair none. all.holding.other pair (λ xid is. none xid (purchase_of_row xid pair is));
+    one_pair = λ xid pair pair' is is'. one_pair l xid pair pair' (row_of xid pair is) (row_of xid pair' is');
+    not_shared = λ xid xid' pair is is'. one_purchase l xid xid' pair.reference (row_of xid pair is).by_place (row_of xid' pair is').by_place;
+    bounded = λ xid. record {
+      credit = (booked_of l xid).credited;
+      is_credited = sym (all.shows.same_credited xid);
+      never_negative = omega (arith, all.kept.credited_within xid, all.shows.same_captured xid);
+      never_above = omega (arith, all.kept.captured_within xid, all.shows.same_captured xid, all.shows.same_authorised xid);
+      captured_within = omega (arith, all.kept.captured_within xid, all.shows.same_captured xid, all.shows.same_authorised xid);
+    };
+    reversals_granted = all.granted;
+    closes = all.sums.closes;
+    repeats_agree = all.agree;
+  }
+
+  -- and what the books show
+  booked : Booked h l
+  booked = record {
     same_purchases = all.shows.same_purchases;
     same_amounts = λ xid. record {
       same_authorised = all.shows.same_authorised xid;
@@ -169,20 +187,13 @@ module _ (h : List Entry) (l : Ledger) (held : Holdings) (all : Everything h l h
       same_credited = all.shows.same_credited xid;
       same_doubt = λ amount. (doubt_told xid amount, doubt_booked xid amount);
     };
-    bounded = λ xid. record {
-      credit = (booked_of l xid).credited;
-      is_credited = sym (all.shows.same_credited xid);
-      never_negative = omega (arith, all.kept.credited_within xid, all.shows.same_captured xid);
-      never_above = omega (arith, all.kept.captured_within xid, all.shows.same_captured xid, all.shows.same_authorised xid);
-    };
-    reversals_granted = all.granted;
     same_batches = all.batched.same_batches;
     same_closed = all.batched.same_closed;
     totals = all.sums.totals;
-    closes = all.sums.closes;
-    repeats_agree = all.agree;
-    repeats = repeats_from h l all.recalls;
   }
+
+  pub stands : LawStands h l held
+  stands = record { observed = observed; booked = booked; repeats = repeats_from h l all.recalls }
 
 -- the law over runs
 pub law_over_runs : LawOverRuns

@@ -1,6 +1,8 @@
 pub mod Base
 pub mod Batches
+pub mod Between
 pub mod Carrying
+pub mod Cases
 pub mod Changes
 pub mod Granted
 pub mod Holds

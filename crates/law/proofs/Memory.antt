@@ -2,28 +2,28 @@
 use Rattle.std.proofs.Common.{◌≡◌, ℕ, Bool, true, false, cond, not, ◌&&◌, ◌||◌, eqb, List, [], ◌∷◌, Some, None, Ok, Err, Option, Result, sym, refl, ap, ◌∙◌, subst}
 use Rattle.std.proofs.lemmas.Bool.{both_ways, cond-false, ne_eqb, true≢false}
 use Rattle.fields.specs.Kind.{is_kind}
+use Rattle.host.specs.Parts.{Holdings}
 use Rattle.wire.specs.RoundTrip.{Bytes}
 use Rattle.wire.specs.declared.message.Fields.{Fields}
 use Rattle.rules.specs.Checks.{used_otherwise}
 use Rattle.rules.specs.Ledger.{Ledger, no_ledger, remembered_of}
 use Rattle.rules.specs.Outcome.{outcome_code}
-use Rattle.rules.specs.Rules.{Call, Reply, answer_by, answer_of, books_after, books_by, call_by, choose, is_forgotten, noted, refused_with, repeat_in, way}
+use Rattle.rules.specs.Rules.{Call, Reply, answer_by, answer_of, books_after, books_by, call_by, call_of, choose, is_forgotten, noted, refused_with, repeat_in, way}
 use Rattle.wire.specs.Bytes.{same_bytes}
 use Rattle.rules.specs.Same.{same_fields}
 use Rattle.rules.specs.declared.outcome.Outcome.{Outcome}
 use Rattle.rules.specs.declared.outcome.Outcome.TheVariants.{MemoryFull, RequestNumberUsed}
 use Rattle.rules.specs.declared.outcome.Performed.{Performed}
 use Rattle.rules.specs.declared.remembered.Remembered.{Remembered}
-use Rattle.rules.specs.declared.way.Way.{Way}
-use Rattle.rules.specs.declared.way.Way.TheVariants.{Again, Stopped}
+use Rattle.rules.specs.Way.{Way, Again, Stopped}
 use Rattle.rules.proofs.Answering.{forgets}
 use Rattle.rules.proofs.Ways.{book_refusal, full_refuses, recalled, way_by}
-use Rattle.law.specs.History.{Entry, Given, entry, fields_of, last_given, message_from, opened, succeeded_before}
-use Rattle.law.specs.Reached.{full, short}
-use Rattle.law.specs.Stands.{Repeats, RepeatsOf}
+use Rattle.law.specs.Repeats.{Repeats, RepeatsOf, full}
+use Rattle.law.specs.History.{Entry, Given, NoInquiry, entry, last_given, opened, short, succeeded_before}
 use Rattle.rules.proofs.Sames.{fields_equal, fields_refl, same_from, sames_equal}
+use Rattle.law.specs.Reached.{Replies}
 use Rattle.law.proofs.Base.{kind_of, one_spelling, unless}
-use Rattle.law.proofs.Invariants.{Known, Recalls, is_done, known, known_used, known_full}
+use Rattle.law.proofs.Invariants.{Known, Recalls, is_done, known, known_full, known_used}
 use Rattle.law.proofs.Noting.{After, Here, after_step}
 
 -- empty books recall nothing
@@ -143,10 +143,10 @@ module _ (h : List Entry) (l l' : Ledger) (bytes : List ℕ) (m : Fields) (x : P
       shorts_by b given number err false e some = r.shorts b given number err some
 
 -- every message is recalled as it was answered
-pub recalls_step : (h : List Entry) (l : Ledger) (bytes : List ℕ) (m : Fields) (reply : Reply) → Bytes bytes → opened bytes ≡ Ok m → Recalls h l
-    → Recalls (entry bytes (full (answer_of l m reply)) ∷ h) (books_after l m reply)
-recalls_step h l bytes m reply are is r =
-    recalls_after h l (books_after l m reply) bytes m (answer_of l m reply) are is r (after_step l m reply (kind_of bytes m is))
+pub recalls_step : (h : List Entry) (l : Ledger) (bytes : List ℕ) (m : Fields) (reply : Reply) (held held' : Holdings) → Bytes bytes → opened bytes ≡ Ok m
+    → Recalls h l → Replies (call_of l m) reply held held' → Recalls (entry bytes (full (answer_of l m reply)) ∷ h) (books_after l m reply)
+recalls_step h l bytes m reply held held' are is r called =
+    recalls_after h l (books_after l m reply) bytes m (answer_of l m reply) are is r (after_step l m reply held held' (kind_of bytes m is) called)
 
 -- what is recalled has its own request number
 recalled_not_used : (o : Option Remembered) (m : Fields) (a : Performed) → repeat_in o m ≡ Some a → used_otherwise o m ≡ false
@@ -197,12 +197,12 @@ module _ (l : Ledger) (m : Fields) (kind : is_kind m.kind ≡ true) (given : Giv
       repeats_refused MemoryFull refl (goes other false (ap (λ o. used_otherwise o m) new) None (ap (λ o. repeat_in o m) new) (Some MemoryFull) (full_refuses l m kind other most)) gives
 
 -- so what was answered otherwise than by 25 is answered again
-pub repeats_from : (h : List Entry) (l : Ledger) → Recalls h l → (bytes : List ℕ) (given : Given) → ((message_from bytes).kind ≡ 9 → ⊥)
+pub repeats_from : (h : List Entry) (l : Ledger) → Recalls h l → (bytes : List ℕ) → NoInquiry bytes → (given : Given)
     → last_given h bytes ≡ Some given → (given.code ≡ 25 → ⊥) → RepeatsOf (opened bytes) given l
-repeats_from h l r bytes given other last loud = by_opening (opened bytes) refl
+repeats_from h l r bytes other given last loud = by_opening (opened bytes) refl
   where
     by_opening : (o : Result Fields ℕ) → opened bytes ≡ o → RepeatsOf o given l
     by_opening (Err number) e = sym (r.shorts bytes given number e last)
     by_opening (Ok m) e =
-        let loud-kind = ne_eqb m.kind 9 (λ nine. other (ap (λ o. (fields_of o).kind) e ∙ nine)) in
+        let loud-kind = ne_eqb m.kind 9 (other m e) in
         repeats_known l m (kind_of bytes m e) given loud-kind loud (r.answers bytes m given (r.only_bytes bytes given last) e loud-kind last)

@@ -3,25 +3,26 @@ use Rattle.std.proofs.Common.{◌≡◌, ◌<◌, ◌≤◌, Bool, true, false, 
 use Rattle.std.specs.Option.{option_map}
 use Rattle.std.proofs.lemmas.Bool.{both_ways, cond-true, cond-false, eqb-true, not-true}
 use Rattle.fields.specs.Kind.{is_kind}
+use Rattle.host.specs.Parts.{Holdings}
 use Rattle.wire.specs.declared.message.Fields.{Fields}
 use Rattle.rules.specs.Checks.{used_otherwise}
-use Rattle.rules.specs.Ledger.{Ledger, of_request, remembered_of}
+use Rattle.rules.specs.Ledger.{Ledger, most_answers, of_request, remembered_of}
 use Rattle.rules.specs.Outcome.{outcome_code}
-use Rattle.rules.specs.Rules.{Reply, answer_by, answer_of, answered, books_after, books_by, is_forgotten, is_silent, moved, noted, put_answered, refused_with, remembered, repeat_in, replaced, way}
+use Rattle.rules.specs.Rules.{Reply, answer_of, answered, books_after, call_of, is_forgotten, is_silent, moved, noted, on_put, put_answered, refused_with, remembered, repeat_in, replaced}
 use Rattle.rules.specs.Same.{same_fields}
 use Rattle.rules.specs.declared.outcome.Outcome.{Outcome}
 use Rattle.rules.specs.declared.outcome.Outcome.TheVariants.{Success}
 use Rattle.rules.specs.declared.outcome.Performed.{Performed}
 use Rattle.rules.specs.declared.remembered.Remembered.{Remembered}
-use Rattle.rules.specs.declared.way.Way.{Way}
-use Rattle.rules.specs.declared.way.Way.TheVariants.{Again, Retry, Stopped, Through}
 use Rattle.rules.proofs.Outcomes.{check_apart, is_check}
 use Rattle.rules.proofs.Answering.{forgets, forgets_inquiry, keeps_answer, moved_answers, remembered_answers, replied_kept}
 use Rattle.rules.proofs.Passed.{nothing_there}
-use Rattle.rules.proofs.Ways.{Went, went, again, retried, stopped, through, by_way, recalled, Refused, full_memory, other_check, used_number}
-use Rattle.law.specs.Reached.{full}
+use Rattle.rules.proofs.Ways.{Refused, full_memory, other_check, recalled, used_number}
+use Rattle.law.specs.Repeats.{full}
 use Rattle.rules.proofs.Sames.{fields_refl}
-use Rattle.law.proofs.Invariants.{Known, is_done, known, known_used, known_full}
+use Rattle.law.specs.Reached.{Replies}
+use Rattle.law.proofs.Cases.{by_ways}
+use Rattle.law.proofs.Invariants.{Known, is_done, known, known_full, known_used}
 use Rattle.law.proofs.Recall.{recalled_noted, recalled_replaced, row_of}
 use Rattle.law.proofs.Rows.{length_update, part_stays, row_push, some_mapped}
 
@@ -31,11 +32,12 @@ pub record Here (l l' : Ledger) (m : Fields) (x : Performed) : Type 0 where
   pub only : (a : Performed) → recalled l' m ≡ Some a → a ≡ x
   pub done_kept : (eqb (outcome_code x.outcome) 0 || is_done (recalled l m)) ≡ is_done (recalled l' m)
 
--- of every message: what is recalled of others stays, and so do used request numbers and a full memory
+-- of every message: what is recalled of others stays, and so do used request numbers and a full
+-- memory
 pub record After (l l' : Ledger) (m : Fields) (x : Performed) : Type 0 where
   pub elsewhere : (n : Fields) → same_fields m n ≡ false → recalled l' n ≡ recalled l n
   pub still_used : (n : Fields) → used_otherwise (remembered_of l n) n ≡ true → used_otherwise (remembered_of l' n) n ≡ true
-  pub still_full : (n : Fields) → remembered_of l n ≡ None → 256 ≤ length l.answers → (remembered_of l' n ≡ None) × (256 ≤ length l'.answers)
+  pub still_full : (n : Fields) → remembered_of l n ≡ None → most_answers ≤ length l.answers → (remembered_of l' n ≡ None) × (most_answers ≤ length l'.answers)
   pub here : eqb m.kind 9 ≡ false → Here l l' m x
 
 -- a message whose request number is used otherwise is not recalled
@@ -58,7 +60,7 @@ module _ (l l' : Ledger) (m : Fields) (x : Performed) where
   after_same same here = record {
     elsewhere = λ n apart. ap (λ rows. repeat_in (row_of n rows) n) same;
     still_used = λ n is. ap (λ rows. used_otherwise (row_of n rows) n) same ∙ is;
-    still_full = λ n none most. (ap (row_of n) same ∙ none, subst (λ rows. 256 ≤ length rows) (sym same) most);
+    still_full = λ n none most. (ap (row_of n) same ∙ none, subst (λ rows. most_answers ≤ length rows) (sym same) most);
     here = here;
   }
 
@@ -81,7 +83,7 @@ module _ (l l' : Ledger) (m : Fields) (x : Performed) where
         or_false false = refl
 
   -- one row more
-  after_noted : l'.answers ≡ (noted m x l).answers → remembered_of l m ≡ None → length l.answers < 256 → After l l' m x
+  after_noted : l'.answers ≡ (noted m x l).answers → remembered_of l m ≡ None → length l.answers < most_answers → After l l' m x
   after_noted more new room = record {
     elsewhere = recalls_other recalls;
     still_used = λ n is. ap (λ o. used_otherwise o n) (stays n (there (remembered_of l n) n is)) ∙ is;
@@ -104,7 +106,7 @@ module _ (l l' : Ledger) (m : Fields) (x : Performed) where
   after_replaced other b was silent = record {
     elsewhere = recalls_other recalls;
     still_used = λ n is. used_by_fields (remembered_of l' n) n ∙ ap (λ o. used_by o n) (stays n) ∙ sym (used_by_fields (remembered_of l n) n) ∙ is;
-    still_full = λ n none most. (none_still n none, subst (λ k. 256 ≤ k) (sym long) most);
+    still_full = λ n none most. (none_still n none, subst (λ k. most_answers ≤ k) (sym long) most);
     here = λ loud. recalls_here recalls (ap is_done was ∙ ap (λ k. eqb k 0) (eqb-true (outcome_code b.outcome) 25 silent));
   }
     where
@@ -129,7 +131,7 @@ module _ (l l' : Ledger) (m : Fields) (x : Performed) where
 module _ (l : Ledger) (m : Fields) where
   -- an answer that is remembered unless it is an inquiry's
   after_remembered : (x : Performed) (moved_books : Ledger) → moved_books.answers ≡ l.answers → is_forgotten x.outcome ≡ false
-      → (eqb m.kind 9 ≡ false → (remembered_of l m ≡ None) × (length l.answers < 256)) → After l (remembered m x moved_books) m x
+      → (eqb m.kind 9 ≡ false → (remembered_of l m ≡ None) × (length l.answers < most_answers)) → After l (remembered m x moved_books) m x
   after_remembered x books same loud free = by_nine (eqb m.kind 9) refl
     where
       by_nine : (nine : Bool) → eqb m.kind 9 ≡ nine → After l (remembered m x books) m x
@@ -161,22 +163,19 @@ module _ (l : Ledger) (m : Fields) where
       twice false = refl
 
 -- every message leaves the memory so
-pub after_step : (l : Ledger) (m : Fields) (reply : Reply) → is_kind m.kind ≡ true → After l (books_after l m reply) m (answer_of l m reply)
-after_step l m reply kind = at (went l m kind)
+pub after_step : (l : Ledger) (m : Fields) (reply : Reply) (held held' : Holdings) → is_kind m.kind ≡ true → Replies (call_of l m) reply held held'
+    → After l (books_after l m reply) m (answer_of l m reply)
+after_step l m reply held held' kind called =
+    by_ways l m held held' (λ a books. After l books m a) (record {
+      repeated = λ a known same. after_again l m a known;
+      put_again = λ was r called. after_replaced l _ m (put_answered m (on_put r)) refl was.answer was.is was.silent;
+      refused = λ o check why same. refused o check why;
+      passed = λ passed reply called. after_remembered l m (answered l m reply) (moved l m reply) (moved_answers l m reply kind) (replied_kept reply) passed.free;
+    }) kind reply called
   where
-    along : (x : Way) → way l m ≡ x → After l (books_by x l m reply) m (answer_by x l m reply) → After l (books_after l m reply) m (answer_of l m reply)
-    along = by_way l m reply (λ call a books. After l books m a)
-
-    at : Went l m → After l (books_after l m reply) m (answer_of l m reply)
-    at (again a w same loud) = along (Again a) w (after_again l m a same)
-    at (retried a w same silent) = along Retry w (after_replaced l _ m (put_answered m reply) refl a same silent)
-    at (stopped o w check why) = along (Stopped o) w (refused why)
-      where
-        refused : Refused l m o → After l (remembered m (refused_with m o) l) m (refused_with m o)
-        refused (used_number is otherwise) =
-            after_forgotten l m o (ap is_forgotten is) check (used_not_recalled (remembered_of l m) m otherwise) (known_used otherwise (ap (λ x. full (refused_with m x)) is))
-        refused (full_memory is new most) =
-            after_forgotten l m o (ap is_forgotten is) check (ap (λ r. repeat_in r m) new) (known_full new most (ap (λ x. full (refused_with m x)) is))
-        refused (other_check loud none free) = after_remembered l m (refused_with m o) l refl loud free
-    at (through w none passed free) =
-        along Through w (after_remembered l m (answered l m reply) (moved l m reply) (moved_answers l m reply kind) (replied_kept reply) free)
+    refused : (o : Outcome) → is_check o ≡ true → Refused l m o → After l (remembered m (refused_with m o) l) m (refused_with m o)
+    refused o check (used_number is otherwise) =
+        after_forgotten l m o (ap is_forgotten is) check (used_not_recalled (remembered_of l m) m otherwise) (known_used otherwise (ap (λ x. full (refused_with m x)) is))
+    refused o check (full_memory is new most) =
+        after_forgotten l m o (ap is_forgotten is) check (ap (λ r. repeat_in r m) new) (known_full new most (ap (λ x. full (refused_with m x)) is))
+    refused o check (other_check loud none free) = after_remembered l m (refused_with m o) l refl loud free

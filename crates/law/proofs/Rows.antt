@@ -1,4 +1,5 @@
--- Rows of the books that are looked up after one was rewritten or added: of any table, then of the purchases and the batches.
+-- Rows of the books that are looked up after one was rewritten or added: of any table, then of the
+-- purchases and the batches.
 use Rattle.std.proofs.Common.{◌≡◌, ℕ, suc, Bool, true, false, cond, ◌&&◌, eqb, List, [], ◌∷◌, ◌++◌, map, length, is_some, Some, None, Option, unwrap_or, sym, refl, ap, ◌∙◌}
 use Rattle.std.specs.Option.{option_map}
 use Rattle.std.proofs.lemmas.Bool.{and_parts, cond-false, cond-true, eqb-true, true≢false}
@@ -6,12 +7,12 @@ use Rattle.rows.specs.First.{first_with, row_with, update_first}
 use Rattle.rows.proofs.First.{row_update, row_update_other}
 use Rattle.wire.specs.declared.message.Fields.{Fields}
 use Rattle.rules.specs.Ledger.{Ledger, batch_row, no_batch, no_purchase, of_batch, of_xid, purchase_row}
-use Rattle.rules.specs.Rules.{new_purchase, on_batch, on_purchase}
+use Rattle.rules.specs.Rules.{add_purchase, new_purchase, on_batch, on_purchase}
 use Rattle.wire.specs.Bytes.{same_bytes}
 use Rattle.rules.specs.declared.batch.Batch.{Batch}
 use Rattle.rules.specs.declared.purchase.Purchase.{Purchase}
-use Rattle.rules.proofs.Answering.{seat}
-use Rattle.law.specs.Stands.{batch_under, booked_of}
+use Rattle.law.specs.Batches.{is_under}
+use Rattle.law.specs.Booked.{batch_under, booked_of}
 use Rattle.rules.proofs.Sames.{sames_equal}
 
 -- what is there has a value
@@ -177,23 +178,19 @@ module _ (l : Ledger) (m : Fields) (f : Purchase → Purchase) (keeps : (p : Pur
 
 -- the row of an XID and its place, with a new purchase behind the others
 module _ (l : Ledger) (m : Fields) (xid : List ℕ) where
-  pub row_known : is_some (row_with (of_xid xid) l.purchases) ≡ true → row_with (of_xid xid) (seat m l).purchases ≡ row_with (of_xid xid) l.purchases
+  pub row_known : is_some (row_with (of_xid xid) l.purchases) ≡ true → row_with (of_xid xid) (add_purchase m l).purchases ≡ row_with (of_xid xid) l.purchases
   row_known known = row_push (of_xid xid) l.purchases (new_purchase m) ∙ cond-true _ _ _ known
 
-  pub place_known : is_some (row_with (of_xid xid) l.purchases) ≡ true → first_with (of_xid xid) (seat m l).purchases ≡ first_with (of_xid xid) l.purchases
+  pub place_known : is_some (row_with (of_xid xid) l.purchases) ≡ true → first_with (of_xid xid) (add_purchase m l).purchases ≡ first_with (of_xid xid) l.purchases
   place_known known = first_push (of_xid xid) l.purchases (new_purchase m) ∙ cond-true _ _ _ known
 
   -- of an XID that was not known, if it is the new purchase's
   module _ (new : is_some (row_with (of_xid xid) l.purchases) ≡ false) (own : same_bytes m.xid xid ≡ true) where
-    pub row_new : row_with (of_xid xid) (seat m l).purchases ≡ Some (new_purchase m)
+    pub row_new : row_with (of_xid xid) (add_purchase m l).purchases ≡ Some (new_purchase m)
     row_new = row_push (of_xid xid) l.purchases (new_purchase m) ∙ cond-false _ _ _ new ∙ cond-true _ (Some (new_purchase m)) None own
 
-    pub place_new : first_with (of_xid xid) (seat m l).purchases ≡ Some (length l.purchases)
+    pub place_new : first_with (of_xid xid) (add_purchase m l).purchases ≡ Some (length l.purchases)
     place_new = first_push (of_xid xid) l.purchases (new_purchase m) ∙ cond-false _ _ _ new ∙ cond-true _ (Some (length l.purchases)) None own
-
--- whether a message is under a course and number
-abbrev pub is_under : Fields → ℕ → ℕ → Bool
-is_under m course number = eqb m.course course && eqb m.batch number
 
 -- the message's batch rewritten, its course and number kept
 module _ (l : Ledger) (m : Fields) (f : Batch → Batch) (keeps : (course number : ℕ) (b : Batch) → of_batch course number (f b) ≡ of_batch course number b) where
@@ -204,7 +201,7 @@ module _ (l : Ledger) (m : Fields) (f : Batch → Batch) (keeps : (course number
       ∙ some_value (batch_row l m) f no_batch known
 
   -- and any other what it did
-  pub batch_elsewhere : (course number : ℕ) → is_under m course number ≡ false → batch_under (on_batch m f l) course number ≡ batch_under l course number
+  pub batch_elsewhere : (course number : ℕ) → is_under course number m ≡ false → batch_under (on_batch m f l) course number ≡ batch_under l course number
   batch_elsewhere course number apart = ap (λ o. unwrap_or o no_batch) (row_update_other (of_batch m.course m.batch) (of_batch course number) f differs l.batches)
     where
       differs : (b : Batch) → of_batch m.course m.batch b ≡ true → (of_batch course number b ≡ false) × (of_batch course number (f b) ≡ false)

@@ -1,4 +1,5 @@
--- Which entries succeed: a repeat does not, and what was not answered yet, or by 25, was not done before.
+-- Which entries succeed: a repeat does not, and what was not answered yet, or by 25, was not done
+-- before.
 use Rattle.std.proofs.Common.{◌≡◌, ℕ, Bool, true, false, not, ◌&&◌, eqb, List, Some, None, Ok, Option, refl, ap, ◌∙◌}
 use Rattle.std.proofs.lemmas.Bool.{eqb-true}
 use Rattle.wire.specs.RoundTrip.{Bytes}
@@ -8,8 +9,8 @@ use Rattle.rules.specs.Outcome.{outcome_code}
 use Rattle.rules.specs.Rules.{is_silent}
 use Rattle.rules.specs.declared.outcome.Performed.{Performed}
 use Rattle.rules.proofs.Ways.{recalled}
+use Rattle.law.specs.Repeats.{full}
 use Rattle.law.specs.History.{Entry, entry, opened, succeeded_before, succeeds}
-use Rattle.law.specs.Reached.{full}
 use Rattle.law.proofs.Invariants.{Recalls, is_done}
 
 -- what was not done before succeeds just under code 0

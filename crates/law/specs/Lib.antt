@@ -1,4 +1,10 @@
+pub mod Batches
+pub mod Between
+pub mod Booked
 pub mod Carried
 pub mod History
+pub mod Observed
+pub mod Purchases
 pub mod Reached
 pub mod Stands
+pub mod Repeats

@@ -1,13 +1,21 @@
-//! The law over runs: what stands after any messages, in any order, over any host, by the history alone.
+//! The law over runs: what is true after any messages, in any order, over any host.
 #![tactic(auto)]
 
+ghost use Rattle.law.specs.Between.{KeptBetween};
 ghost use Rattle.law.specs.Carried.{OwnBytes};
 ghost use Rattle.law.specs.Stands.{LawOverRuns};
 
-/// The law over runs, under one name: what stands of all that is reached. The calls of the gateway carry it: making begins
-/// it, and each message, performed or handled, leads from any history that reaches the gateway to the longer one; and they
-/// promise besides that a repeat leaves the host the same value. It does nothing; what it promises is the statement.
+/// The law over runs, under one name. Whatever was sent, it stands of what the host holds and what
+/// was answered (`Observed`), of what the books show (`Booked`), and of what a repeat would get now
+/// (`RepeatsStand`). The function does nothing; what it promises is the statement.
+///
+/// `Reached` is the invariant by which the calls of the gateway carry the law: it begins when a
+/// gateway is made, each message carries it from any history to the longer one, and the law stands
+/// wherever it holds (`law`). Between messages the books and every amount held stay the same, which
+/// keeps it (`between`). A message that is performed counts as its own bytes (`bytes`). The calls
+/// promise besides that a repeat leaves the host the same value.
 pub fn law_over_runs()
     ensures law { LawOverRuns }
+    ensures between { KeptBetween }
     ensures bytes { OwnBytes }
 {}

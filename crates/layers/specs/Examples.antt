@@ -8,10 +8,12 @@ use Rattle.host.specs.declared.PutReply.TheVariants.{Done, Silent}
 use Rattle.layers.specs.Line.{next_fate, spent, fate_on_line}
 use Rattle.layers.specs.Split.{between}
 
--- a put of 3000 that is heard below and has assent: the marks left, what is held before it, its answer, and what is held after
+-- a put of 3000 that is heard below and has assent: the marks left, what is held before it, its
+-- reply, and what is held after
 abbrev LinePut : List ℕ → Pence → PutReply → Pence → Type 0
 LinePut left before reply after =
-    (put_reply (fate_on_line (next_fate left) Heard) before true 3000 ≡ reply) × (put_held (fate_on_line (next_fate left) Heard) before true 3000 ≡ after)
+    (put_reply (fate_on_line (next_fate left) Heard) before true 3000 ≡ reply)
+    × (put_held (fate_on_line (next_fate left) Heard) before true 3000 ≡ after)
 
 -- three marks; the third counts as 0
 abbrev marks : List ℕ

@@ -1,8 +1,10 @@
-//! A line that loses calls or answers, over any host.
+//! A line that loses calls or replies, over any host.
 ghost use Rattle.std.specs.Prelude.{◌≡◌, take, drop};
 ghost use Rattle.std.specs.Fn.{FnOnceReturnsAtMut};
 ghost use Rattle.host.specs.Parts.{NothingWhere};
-ghost use Rattle.layers.specs.Line.{LineStep, line_assent, line_held, line_put_fate, line_put_step, line_read_fate, line_read_step, mark_fate, marks_left, most_marks, next_fate, spent};
+ghost use Rattle.layers.specs.Line.{LineStep, mark_fate, marks_left, most_marks, next_fate, spent};
+ghost use Rattle.layers.specs.Line.{line_assent, line_held, line_put_fate, line_put_step};
+ghost use Rattle.layers.specs.Line.{line_read_fate, line_read_step};
 
 use arrayvec::ArrayVec;
 use host::{Amount, Fate, Host, Pair, PutReply, ReadReply};
@@ -13,10 +15,10 @@ pub const MARKS: usize = 64;
 /// The mark under which a call is lost on its way to the host.
 pub const LOSES_CALL: u8 = 1;
 
-/// The mark under which the answer is lost on its way back.
+/// The mark under which the reply is lost on its way back.
 pub const LOSES_ANSWER: u8 = 2;
 
-/// A host below, and the marks that each call spends one of.
+/// A line to the host below, and the marks that are left of it; each call spends one.
 #[derive(Drop)]
 pub struct BadLine<H> {
     below: H,
@@ -25,7 +27,6 @@ pub struct BadLine<H> {
 }
 
 /// What a mark does to a call that meets it.
-// Marks are lent bytes of any value, and neither `Fate` nor `u8` is of this crate, so there is no conversion to write.
 fn mark_fate(mark: u8) -> Fate
     ensures { result ≡ mark_fate mark }
 {
@@ -45,7 +46,6 @@ impl<H: Host> BadLine<H> {
     {
         let count = MARKS.min(marks.len());
         let mut left = ArrayVec::new();
-        // there is room for so many, so none is refused
         let _ = left.try_extend_from_slice(&marks[..count]);
         BadLine { below, marks: left }
     }
@@ -59,8 +59,8 @@ impl<H: Host> BadLine<H> {
         self.marks.pop_at(0).map_or(Fate::Heard, mark_fate)
     }
 
-    /// Spends the next mark on the call, and makes it below unless the mark loses it; a call that is
-    /// lost, or whose answer is, answers silence.
+    /// Spends the next mark on the call, and makes it below unless the mark loses it; a call that
+    /// is lost, or whose reply is, comes to silence.
     fn carry<A: Drop, F: FnOnce(&mut H) -> A + Drop>(&mut self, call: F, silence: A) -> A
         requires { F.IsAlwaysCallable call }
         ensures { LineStep (FnOnceReturnsAtMut F.FnOnce call) silence self.old result self.new }

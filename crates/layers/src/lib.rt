@@ -1,4 +1,5 @@
-//! Hosts over other hosts: a line that loses calls, over any host, and a split by card, over any two.
+//! Hosts over other hosts: a line that loses calls, over any host, and a split by card, over any
+//! two.
 #![tactic(auto)]
 
 pub mod bad_line;

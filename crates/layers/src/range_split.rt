@@ -2,19 +2,21 @@
 ghost use Rattle.std.specs.Prelude.{◌≡◌};
 ghost use Rattle.host.specs.Parts.{NothingWhereBoth};
 ghost use Rattle.layers.specs.Digits.{LeadingSix, leading_six};
-ghost use Rattle.layers.specs.Split.{is_left, split_assent, split_held, split_put_fate, split_put_step, split_read_fate, split_read_step};
+ghost use Rattle.layers.specs.Split.{is_left, split_assent, split_held};
+ghost use Rattle.layers.specs.Split.{split_put_fate, split_put_step};
+ghost use Rattle.layers.specs.Split.{split_read_fate, split_read_step};
 
 use host::{Amount, Card, Host, Pair, PutReply, ReadReply};
 
 /// The least number of more than six digits.
-const SEVEN_DIGITS: Card = 1_000_000;
+const SEVEN_DIGITS: u64 = 1_000_000;
 
 /// The leading six digits of a card number; one under six digits whole.
-fn leading_six(card: Card) -> u64
-    ensures value { result ≡ leading_six card }
-    ensures digits { LeadingSix card result }
+fn leading_six(number: u64) -> u64
+    ensures value { result ≡ leading_six number }
+    ensures digits { LeadingSix number result }
 {
-    let mut front = card;
+    let mut front = number;
     while front >= SEVEN_DIGITS {
         front /= 10;
     }
@@ -31,12 +33,14 @@ pub struct RangeSplit<L, R> {
 }
 
 impl<L, R> RangeSplit<L, R> {
+    /// The host of the cards whose leading six digits lie between the bounds.
     pub fn left(&self) -> &L
         ensures { result.now ≡ self.now.left }
     {
         &self.left
     }
 
+    /// The host of all other cards.
     pub fn right(&self) -> &R
         ensures { result.now ≡ self.now.right }
     {
@@ -47,17 +51,19 @@ impl<L, R> RangeSplit<L, R> {
     pub fn is_left(&self, card: Card) -> bool
         ensures { result ≡ is_left self.now card }
     {
-        let front = leading_six(card);
+        let front = leading_six(card.number);
         (self.low..=self.high).contains(&front)
     }
 }
 
 impl<L: Host, R: Host> RangeSplit<L, R> {
-    /// A split of the cards whose leading six digits lie between the bounds, ends included, from all others.
+    /// A split of the cards whose leading six digits lie between the bounds, ends included, from
+    /// all others.
     pub fn new(left: L, right: R, low: u64, high: u64) -> RangeSplit<L, R>
         ensures sides { (result.left ≡ left) × (result.right ≡ right) }
         ensures bounds { (result.low ≡ low) × (result.high ≡ high) }
-        ensures nothing { NothingWhereBoth (L.Host.held left) (R.Host.held right) (split_held L.Host.held R.Host.held result) }
+        ensures nothing { NothingWhereBoth (L.Host.held left) (R.Host.held right)
+            (split_held L.Host.held R.Host.held result) }
     {
         RangeSplit {
             left,
@@ -68,7 +74,6 @@ impl<L: Host, R: Host> RangeSplit<L, R> {
     }
 }
 
-// One `if` in `put` and one in `read`: the sides differ in type, and a `dyn` lent from either would hide which one changed.
 impl<L: Host, R: Host> Host for RangeSplit<L, R> {
     ghost held = { split_held L.Host.held R.Host.held };
 

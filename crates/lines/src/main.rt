@@ -11,16 +11,26 @@ ghost use Rattle.hosts.specs.DrawerHost.{drawer_held};
 ghost use Rattle.layers.specs.Line.{line_held, marks_left, next_fate};
 ghost use Rattle.layers.specs.Split.{is_left, split_held};
 
+use console::arguments;
+use console::shown::Masked;
 use host::{Amount, Card, Host, Pair, PutReply, Reference};
 use hosts::account_book::{Account, AccountBook, Hold};
 use hosts::voucher_drawer::{Voucher, VoucherDrawer};
 use layers::bad_line::BadLine;
 use layers::range_split::RangeSplit;
 use std::io;
+use std::process::ExitCode;
+
+const HELP: &str = "\
+usage: lines
+Reads nothing. Drives the four hosts through thirty puts and reads: a split by card over a line
+that loses calls and answers, over an account book, on the left, and a voucher drawer on the right.
+Prints for each call what was asked, what was answered and what is held after.
+";
 
 type Bank<'a, 'v> = RangeSplit<BadLine<AccountBook<'a>>, VoucherDrawer<'v>>;
 
-// An enum, since the calls are a table, printed one after the other; card and reference stand apart, to keep its lines short.
+// A call with its card, its reference and, for a put, its amount.
 #[derive(Clone, Copy)]
 enum Call {
     Put(Card, Reference, Amount),
@@ -30,15 +40,23 @@ enum Call {
 use Call::{Put, Read};
 
 // the cards of the accounts, which the left host has, and those of the vouchers
-const ANNE: Card = 4_111_111_111_111_111;
+const ANNE: Card = Card {
+    number: 4_111_111_111_111_111,
+};
 
-const BEN: Card = 4_999_990_000_000_004;
+const BEN: Card = Card {
+    number: 4_999_990_000_000_004,
+};
 
-const NO_ACCOUNT: Card = 4_000_000_000_000_002;
+const NO_ACCOUNT: Card = Card {
+    number: 4_000_000_000_000_002,
+};
 
-const VOUCHER: Card = 6_331_100_000_000_003;
+const VOUCHER: Card = Card {
+    number: 6_331_100_000_000_003,
+};
 
-const SHORT: Card = 12_345;
+const SHORT: Card = Card { number: 12_345 };
 
 const LOW: u64 = 400_000;
 
@@ -89,7 +107,7 @@ const CALLS: [Call; 30] = [
 
 /// What is held now, without a call.
 fn held(bank: &Bank<'_, '_>, pair: Pair) -> Amount
-    ensures { result ≡ split_held (line_held book_held) drawer_held bank.now pair.card pair.reference }
+    ensures { result ≡ split_held (line_held book_held) drawer_held bank.now pair }
 {
     if bank.is_left(pair.card) {
         bank.left().below().held(pair)
@@ -101,13 +119,16 @@ fn held(bank: &Bank<'_, '_>, pair: Pair) -> Amount
 /// Puts through the split. For a card of the left host the line's next mark decides whether the put
 /// reaches the book and its holds; for any other card it reaches the drawer and its vouchers.
 fn put(bank: &mut Bank<'_, '_>, pair: Pair, amount: Amount) -> PutReply
-    ensures lost { is_left bank.old pair.card ≡ true → next_fate (marks_left bank.old.left) ≡ LostGoing
+    ensures lost { is_left bank.old pair.card ≡ true
+        → next_fate (marks_left bank.old.left) ≡ LostGoing
         → bank.new.left.below.holds.now ≡ bank.old.left.below.holds.now }
     ensures made { let book = bank.old.left.below in
-        is_left bank.old pair.card ≡ true → next_fate (marks_left bank.old.left) ≢ LostGoing
-        → bank.new.left.below.holds.now ≡ holds_after book.accounts.now book.holds.now pair.card pair.reference amount }
+        is_left bank.old pair.card ≡ true
+        → next_fate (marks_left bank.old.left) ≢ LostGoing
+        → bank.new.left.below.holds.now
+        ≡ holds_after book.accounts.now book.holds.now pair amount }
     ensures vouchers { is_left bank.old pair.card ≡ false
-        → bank.new.right.vouchers.now ≡ vouchers_after bank.old.right.vouchers.now pair.card pair.reference amount }
+        → bank.new.right.vouchers.now ≡ vouchers_after bank.old.right.vouchers.now pair amount }
 {
     bank.put(pair, amount)
 }
@@ -119,18 +140,23 @@ fn show(rt: &HostRuntime, bank: &mut Bank<'_, '_>, call: Call) -> io::Result<()>
             let pair = Pair { card, reference };
             let reply = put(bank, pair, amount);
             let after = held(bank, pair);
-            println!(rt; "put {card} {reference} {amount}: {reply}, held {after}")
+            let shown = Masked(card.number);
+            println!(rt; "put {shown} {reference} {amount}: {reply}, held {after}")
         }
         Read(card, reference) => {
             let pair = Pair { card, reference };
             let reply = bank.read(pair);
             let after = held(bank, pair);
-            println!(rt; "read {card} {reference}: {reply}, held {after}")
+            let shown = Masked(card.number);
+            println!(rt; "read {shown} {reference}: {reply}, held {after}")
         }
     }
 }
 
-fn main(rt: HostRuntime) -> io::Result<()> {
+fn main(rt: HostRuntime) -> io::Result<ExitCode> {
+    if let Some(status) = arguments::answer(&rt, HELP)? {
+        return Ok(status);
+    }
     let accounts = [
         Account {
             card: ANNE,
@@ -155,5 +181,5 @@ fn main(rt: HostRuntime) -> io::Result<()> {
     for call in CALLS {
         show(&rt, &mut bank, call)?;
     }
-    Ok(())
+    Ok(ExitCode::SUCCESS)
 }

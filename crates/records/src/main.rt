@@ -1,45 +1,26 @@
-// Reads a file of records from standard input, opens each message, writes it again, and prints a line for each.
+//! Reads records from standard input, opens each message, writes it again, and prints a line for
+//! each.
 #![tactic(auto)]
 
+use anyhow::Context;
+use console::arguments;
+use console::shown::{Hexadecimal, Masked};
+use console::stream::{LONGEST, holds_record, read_record};
 use fields::field::Field;
 use fields::kind::Kind;
-use fields::record::Records;
-use std::io::Read;
+use std::io::{BufReader, BufWriter, Read, Write};
+use std::process::ExitCode;
 use std::{fmt, io};
 use wire::message::Fields;
 use wire::{STRIP, open, write};
 
-// A buffer for the longest record.
-const LONGEST: usize = 255;
-
-// How many digits of a card are shown.
-const SHOWN: u64 = 10_000;
-
-#[derive(Clone, Copy)]
-struct Hexadecimal<'a>(&'a [u8]);
-
-impl fmt::Display for Hexadecimal<'_> {
-    fn fmt<W: fmt::Write>(&self, f: &mut fmt::Formatter<W>) -> fmt::Result {
-        for byte in self.0 {
-            write!(f, "{byte:02x}")?;
-        }
-        Ok(())
-    }
-}
-
-// The last four digits of a card, a star for each before them.
-#[derive(Clone, Copy)]
-struct Masked(u64);
-
-impl fmt::Display for Masked {
-    fn fmt<W: fmt::Write>(&self, f: &mut fmt::Formatter<W>) -> fmt::Result {
-        let hidden = (self.0 / SHOWN).checked_ilog10().map_or(0, |tens| tens + 1);
-        for _ in 0..hidden {
-            f.write_str("*")?;
-        }
-        write!(f, "{:04}", self.0 % SHOWN)
-    }
-}
+const HELP: &str = "\
+usage: records < RECORDS
+Reads records from standard input: a length byte and a message each. Prints a line for each record
+before it waits for more: the fields of its message, or why it cannot be opened; a card is shown by
+its last four digits. Each message is also written again from its fields, and compared.
+The last line counts the messages that were opened and those that were refused.
+";
 
 // Pence, and the pounds that they come to.
 #[derive(Clone, Copy)]
@@ -87,11 +68,11 @@ fn is_written_as(fields: &Fields, message: &[u8]) -> bool {
 }
 
 // Whether the message was opened.
-fn show_record(rt: &impl Print, message: &[u8]) -> io::Result<bool> {
+fn show_record<W: Write>(out: &mut W, message: &[u8]) -> io::Result<bool> {
     let mut strip = [0u8; STRIP];
     match open(message, &mut strip) {
         Err(refusal) => {
-            println!(rt; "refused {}: {refusal}", u8::from(refusal))?;
+            writeln!(out, "refused {}: {refusal}", u8::from(refusal))?;
             Ok(false)
         }
         Ok(opened) => {
@@ -101,29 +82,53 @@ fn show_record(rt: &impl Print, message: &[u8]) -> io::Result<bool> {
             } else {
                 "OTHER BYTES"
             };
-            println!(rt; "{}; written again, {again}", Shown(opened.kind(), &fields))?;
+            writeln!(
+                out,
+                "{}; written again, {again}",
+                Shown(opened.kind(), &fields)
+            )?;
             Ok(true)
         }
     }
 }
 
-fn main(rt: HostRuntime) -> io::Result<()> {
-    let mut input = Vec::new(rt.alloc());
-    rt.stdin().read_to_end(&mut input)?;
-    let mut opened = 0usize;
-    let mut refused = 0usize;
-    for (number, record) in (1u64..).zip(Records::new(input.as_slice())) {
-        match record {
-            Ok(message) => {
-                print!(rt; "{number} ")?;
-                if show_record(&rt, message)? {
+// Shows each record, and at the end how many messages were opened and refused. What is shown is
+// written out before the program waits for more records.
+fn run<R: Read, W: Write + Drop>(
+    reader: &mut BufReader<R>,
+    out: &mut BufWriter<W>,
+) -> anyhow::Result<()> {
+    let mut buffer = [0; LONGEST];
+    let mut opened = 0u64;
+    let mut refused = 0u64;
+    for number in 1..u64::MAX {
+        if !holds_record(reader.buffer()) {
+            out.flush()?;
+        }
+        match read_record(reader, &mut buffer).context("reading the records")? {
+            None => break,
+            Some(Err(cut)) => writeln!(out, "{number} {cut}")?,
+            Some(Ok(message)) => {
+                write!(out, "{number} ")?;
+                if show_record(out, message)? {
                     opened = opened.saturating_add(1);
                 } else {
                     refused = refused.saturating_add(1);
                 }
             }
-            Err(cut) => println!(rt; "{number} {cut}")?,
         }
     }
-    println!(rt; "opened {opened}, refused {refused}")
+    writeln!(out, "opened {opened}, refused {refused}")?;
+    out.flush()?;
+    Ok(())
+}
+
+fn main(rt: HostRuntime) -> anyhow::Result<ExitCode> {
+    if let Some(status) = arguments::answer(&rt, HELP)? {
+        return Ok(status);
+    }
+    let mut reader = BufReader::new(rt.alloc(), rt.reader())?;
+    let mut out = BufWriter::new(rt.alloc(), io::writer(&rt))?;
+    run(&mut reader, &mut out)?;
+    Ok(ExitCode::SUCCESS)
 }

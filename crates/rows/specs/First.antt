@@ -1,12 +1,13 @@
--- The first row of a list that passes a test: its place, the row itself, the list with it rewritten, and both halves in full.
-use Rattle.std.specs.Prelude.{◌≡◌, ℕ, suc, ◌<◌, Bool, true, false, cond, List, [], ◌∷◌, length, Some, None, Option}
+-- The first row of a list that passes a test: its place, the row itself, the list with it
+-- rewritten, and what a search answers in full.
+use Rattle.std.specs.Prelude.{◌≡◌, ℕ, suc, ◌<◌, Bool, true, false, if◌then◌else◌, List, [], ◌∷◌, length, Some, None, Option}
 use Rattle.std.specs.Option.{option_map}
 use Rattle.std.specs.List.{HoldsAt, AllWithin, find}
 
 -- where it stands
 abbrev pub first_with : {R : Type 0} → (R → Bool) → List R → Option ℕ
 first_with test [] = None
-first_with test (x ∷ xs) = cond (test x) (Some 0) (option_map suc (first_with test xs))
+first_with test (x ∷ xs) = if test x then Some 0 else option_map suc (first_with test xs)
 
 -- the row that stands there
 abbrev pub row_with : {R : Type 0} → (R → Bool) → List R → Option R
@@ -15,7 +16,7 @@ row_with test rows = find test rows
 -- the list with that row rewritten
 abbrev pub update_first : {R : Type 0} → (R → Bool) → (R → R) → List R → List R
 update_first test f [] = []
-update_first test f (x ∷ xs) = cond (test x) (f x ∷ xs) (x ∷ update_first test f xs)
+update_first test f (x ∷ xs) = if test x then f x ∷ xs else x ∷ update_first test f xs
 
 -- the row found passes and none before it does
 pub record Found {R : Type 0} (test : R → Bool) (rows : List R) (place : ℕ) : Type 0 where

@@ -4,13 +4,17 @@
 ghost use Rattle.std.specs.Prelude.{◌≡◌, Bool};
 ghost use Rattle.rows.specs.First.{FirstOrNone};
 
-/// A row that can be looked for by a key of its own kind, such as twenty bytes or a pair of numbers.
+/// A row that can be looked for by a key of its own kind: a card for an account or a voucher, a
+/// pair or "free" for a hold, an XID for a purchase, course and number for a batch, course and
+/// request number for a remembered answer.
 pub trait Keyed {
+    /// What such a row is looked for by.
     type Key;
 
-    // what it means that a row has a key
+    /// What it means that a row has a key.
     ghost same: { Self → Self.Key → Bool };
 
+    /// Whether this row has the key.
     fn has(&self, key: &Self::Key) -> bool
         ensures { result ≡ same self.now key.now };
 }

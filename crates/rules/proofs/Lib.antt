@@ -1,9 +1,11 @@
 pub mod Answering
 pub mod Booking
 pub mod Every
+pub mod Known
 pub mod Outcomes
 pub mod Passed
 pub mod Plans
+pub mod Recalling
 pub mod Sames
 pub mod Settles
 pub mod Table

@@ -1,11 +1,13 @@
 -- What is known of a message that no check from 9 on refuses.
-use Rattle.std.proofs.Common.{◌≡◌, ℕ, ◌-◌, ◌<◌, ◌≤◌, Bool, true, false, cond, not, ◌&&◌, ◌||◌, eqb, leb, ltb, length, List, [], ◌∷◌, is_some, Some, None, Option, sym, refl, ap, ◌∙◌, subst, arith}
-use Rattle.std.proofs.lemmas.Bool.{and_right, eqb-true, leb-false, ltb-false, not-false, or_from, or_parts, true≢false}
+use Rattle.std.proofs.Common.{◌≡◌, ℕ, ◌<◌, ◌≤◌, Bool, true, false, cond, not, ◌&&◌, ◌||◌, eqb, leb, ltb, length, List, [], ◌∷◌, is_some, Some, None, Option, sym, refl, ap, ◌∙◌, subst, arith}
+use Rattle.std.proofs.lemmas.Bool.{and_right, leb-false, ltb-false, not-false, or_from, or_parts, true≢false}
 use Rattle.std.proofs.Math.Bool.{and-true}
 use Rattle.std.specs.List.{list_any}
+use Rattle.host.proofs.Meaning.{same_card-true}
 use Rattle.wire.specs.declared.message.Fields.{Fields}
 use Rattle.rules.specs.Checks.{Check, among, book_checks, refusal, refuses}
-use Rattle.rules.specs.Ledger.{Ledger, batch_row, facts_of, purchase_of, purchase_row}
+use Rattle.rules.specs.Ledger.{Ledger, batch_row, facts_of, most_batches, most_purchases, purchase_of, purchase_row, uncredited}
+use Rattle.rules.specs.MessageCard.{message_card}
 use Rattle.rules.specs.Outcome.{outcome_code}
 use Rattle.rules.specs.declared.outcome.Outcome.{Outcome}
 use Rattle.rules.specs.declared.outcome.Outcome.TheVariants.{AmountOutOfBounds, BatchNumberUsed, BatchUnknown, BatchesFull, DuplicateRequest, InDoubt, NotReversible, PiAuthMismatch, PiPreviouslyUsed, PurchasesFull, UnknownXid}
@@ -46,8 +48,8 @@ module _ (l : Ledger) (m : Fields) (none : refusal m.kind (book_checks (facts_of
   pub known : (k : ℕ) → m.kind ≡ k → among k (2 ∷ 3 ∷ 4 ∷ 5 ∷ 6 ∷ 9 ∷ []) ≡ true → is_some (purchase_row l m) ≡ true
   known k is kinds = not-false _ (of_kind _ _ _ kinds (passed UnknownXid k is))
 
-  pub card_the_same : m.kind ≡ 1 → is_some (purchase_row l m) ≡ true → (purchase_of l m).card ≡ m.card
-  card_the_same is there = eqb-true _ _ (not-false _ (of_kind _ _ _ there (or_parts _ _ (passed PiAuthMismatch 1 is)).1))
+  pub card_the_same : m.kind ≡ 1 → is_some (purchase_row l m) ≡ true → (purchase_of l m).card ≡ message_card m
+  card_the_same is there = same_card-true _ _ (not-false _ (of_kind _ _ _ there (or_parts _ _ (passed PiAuthMismatch 1 is)).1))
 
   -- the purchase is in no doubt, and has just what the kind asks for
   pub no_doubt : (k : ℕ) → m.kind ≡ k → among k (1 ∷ 2 ∷ 3 ∷ 4 ∷ 5 ∷ 6 ∷ []) ≡ true → (purchase_of l m).doubt ≡ None
@@ -63,7 +65,7 @@ module _ (l : Ledger) (m : Fields) (none : refusal m.kind (book_checks (facts_of
   pub captures_within : m.kind ≡ 3 → m.amount ≤ (purchase_of l m).authorised
   captures_within is = ltb-false _ _ (or_parts _ _ (passed AmountOutOfBounds 3 is)).0
 
-  pub credits_within : m.kind ≡ 5 → m.amount ≤ (purchase_of l m).captured - (purchase_of l m).credited
+  pub credits_within : m.kind ≡ 5 → m.amount ≤ uncredited (purchase_of l m)
   credits_within is = ltb-false _ _ (or_parts _ _ (passed AmountOutOfBounds 5 is)).0
 
   pub uncredits_within : m.kind ≡ 6 → m.amount ≤ (purchase_of l m).credited
@@ -86,10 +88,10 @@ module _ (l : Ledger) (m : Fields) (none : refusal m.kind (book_checks (facts_of
   batch_is_new is = nothing_there _ (or_parts _ _ (passed BatchNumberUsed 7 is)).0
 
   -- there is room for a new purchase, and for a new batch
-  pub purchases_room : m.kind ≡ 1 → is_some (purchase_row l m) ≡ false → length l.purchases < 64
+  pub purchases_room : m.kind ≡ 1 → is_some (purchase_row l m) ≡ false → length l.purchases < most_purchases
   purchases_room is new =
-      let full = leb 64 (length l.purchases) in
+      let full = leb most_purchases (length l.purchases) in
       leb-false _ _ (sym (and-true full) ∙ ap (λ t. full && not t) (sym new) ∙ (or_parts _ _ (passed PurchasesFull 1 is)).0)
 
-  pub batches_room : m.kind ≡ 7 → length l.batches < 8
+  pub batches_room : m.kind ≡ 7 → length l.batches < most_batches
   batches_room is = leb-false _ _ (or_parts _ _ (passed BatchesFull 7 is)).0

@@ -9,7 +9,7 @@ use Rattle.rules.specs.declared.purchase.Purchase.{Purchase}
 
 -- a purchase with another authorised amount and doubt
 abbrev pub with_authorised : ℕ → Option ℕ → Purchase → Purchase
-with_authorised amount doubt p = record { xid = p.xid; course = p.course; card = p.card; authorised = amount; captured = p.captured; credited = p.credited; batch = p.batch; doubt = doubt }
+with_authorised amount doubt p = record p { authorised = amount; doubt = doubt }
 
 -- whatever depends neither on the authorised amount nor on the doubt is as before
 pub settled_part : {A : Type 0} (part : Purchase → A) → ((amount : ℕ) (doubt : Option ℕ) (p : Purchase) → part (with_authorised amount doubt p) ≡ part p)

@@ -6,8 +6,8 @@ use Rattle.std.specs.Option.{option_map}
 use Rattle.fields.specs.Kind.{kind_number}
 use Rattle.fields.specs.declared.kind.Kind.{Kind}
 use Rattle.fields.specs.declared.kind.Kind.TheVariants.{AuthReq}
-use Rattle.rules.specs.Causes.{all_kinds, has_bit, kinds_in, row_of}
 use Rattle.rules.specs.Checks.{among, refusal, refuses}
+use Rattle.rules.specs.Table.{all_kinds, has_bit, kinds_in, row_of}
 use Rattle.wire.specs.declared.message.Fields.{Fields}
 use Rattle.rules.specs.declared.checks.Row.{Row}
 use Rattle.rules.specs.declared.facts.Facts.{Facts}

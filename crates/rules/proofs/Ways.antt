@@ -2,19 +2,19 @@
 use Rattle.std.proofs.Common.{◌≡◌, ℕ, zero, suc, ◌<◌, ◌≤◌, Bool, true, false, cond, not, ◌&&◌, ◌||◌, eqb, leb, List, [], ◌∷◌, length, Some, None, Option, sym, refl, ap, ◌∙◌, subst, arith}
 use Rattle.std.proofs.lemmas.Bool.{and_parts, and_from, cond-true, cond-false, true≢false, both_ways, leb-true, leb-false, le-leb, ne_eqb, not-true}
 use Rattle.std.specs.List.{list_all}
-use Rattle.fields.specs.Kind.{is_kind}
+use Rattle.fields.specs.Kind.{is_kind, kind_from}
 use Rattle.wire.specs.declared.message.Fields.{Fields}
 use Rattle.rules.specs.Checks.{Check, among, book_checks, refusal, refuses, used_otherwise}
-use Rattle.rules.specs.Ledger.{Ledger, facts_of, remembered_of}
-use Rattle.rules.specs.Rules.{Call, Reply, answer_by, answer_of, books_after, books_by, call_by, call_of, card_of, choose, is_forgotten, is_silent, no_call, put_of, read, reference_of, remembers, repeat_in, way}
+use Rattle.rules.specs.Ledger.{Ledger, facts_of, most_answers, remembered_of}
+use Rattle.rules.specs.Outcome.{outcome_code}
+use Rattle.rules.specs.Rules.{Call, Reply, answer_by, answer_of, books_after, books_by, call_by, call_of, choose, is_forgotten, is_silent, kind_call, put_of, remembers, repeat_in, way}
 use Rattle.rules.specs.Same.{same_fields}
 use Rattle.rules.specs.declared.outcome.Outcome.{Outcome}
-use Rattle.rules.specs.declared.outcome.Outcome.TheVariants.{MemoryFull, RequestNumberUsed}
+use Rattle.rules.specs.declared.outcome.Outcome.TheVariants.{HostSilent, MemoryFull, RequestNumberUsed}
 use Rattle.rules.specs.declared.outcome.Performed.{Performed}
 use Rattle.rules.specs.declared.remembered.Remembered.{Remembered}
-use Rattle.rules.specs.declared.way.Way.{Way}
-use Rattle.rules.specs.declared.way.Way.TheVariants.{Again, Retry, Stopped, Through}
-use Rattle.rules.proofs.Outcomes.{is_check}
+use Rattle.rules.specs.Way.{Way, Again, Retry, Stopped, Through}
+use Rattle.rules.proofs.Outcomes.{check_apart, is_check}
 
 -- the answer that is remembered for just this message
 abbrev pub recalled : Ledger → Fields → Option Performed
@@ -29,9 +29,9 @@ pub data Refused (l : Ledger) (m : Fields) (o : Outcome) : Type 0 where
   -- its request number is used
   used_number : o ≡ RequestNumberUsed → used_otherwise (remembered_of l m) m ≡ true → Refused l m o
   -- the memory is full
-  full_memory : o ≡ MemoryFull → remembered_of l m ≡ None → 256 ≤ length l.answers → Refused l m o
+  full_memory : o ≡ MemoryFull → remembered_of l m ≡ None → most_answers ≤ length l.answers → Refused l m o
   -- by another check, whose refusal is remembered
-  other_check : is_forgotten o ≡ false → recalled l m ≡ None → (eqb m.kind 9 ≡ false → (remembered_of l m ≡ None) × (length l.answers < 256)) → Refused l m o
+  other_check : is_forgotten o ≡ false → recalled l m ≡ None → (eqb m.kind 9 ≡ false → (remembered_of l m ≡ None) × (length l.answers < most_answers)) → Refused l m o
 
 -- the way that a message went
 pub data Went (l : Ledger) (m : Fields) : Type 0 where
@@ -43,7 +43,7 @@ pub data Went (l : Ledger) (m : Fields) : Type 0 where
   stopped : (o : Outcome) → way l m ≡ Stopped o → is_check o ≡ true → Refused l m o → Went l m
   -- past all checks
   through : way l m ≡ Through → recalled l m ≡ None → book_refusal l m ≡ None
-      → (eqb m.kind 9 ≡ false → (remembered_of l m ≡ None) × (length l.answers < 256)) → Went l m
+      → (eqb m.kind 9 ≡ false → (remembered_of l m ≡ None) × (length l.answers < most_answers)) → Went l m
 
 -- what holds of each kind
 pub record EachKind (P : ℕ → Type 0) : Type 0 where
@@ -96,7 +96,7 @@ puts_no_inquiry k puts = ne_eqb k 9 (λ nine. true≢false (sym puts ∙ ap (λ 
 
 -- the call of a message of this kind that is past all checks
 abbrev pub call_at : Ledger → Fields → ℕ → Call
-call_at l m k = cond (among k (1 ∷ 2 ∷ [])) (put_of l m) (cond (eqb k 9) (read (card_of l m) (reference_of l m)) no_call)
+call_at l m k = kind_call (kind_from k) l m
 
 -- what holds of the call, the answer and the books of the way that a message goes holds of its own
 pub by_way : (l : Ledger) (m : Fields) (reply : Reply) (P : Call → Performed → Ledger → Type 0) (x : Way) → way l m ≡ x
@@ -120,36 +120,36 @@ after_first (row ∷ rows) = rows
 
 module _ (l : Ledger) (m : Fields) (kind : is_kind m.kind ≡ true) where
   -- a full memory refuses all but inquiries
-  pub full_refuses : eqb m.kind 9 ≡ false → 256 ≤ length l.answers → book_refusal l m ≡ Some MemoryFull
+  pub full_refuses : eqb m.kind 9 ≡ false → most_answers ≤ length l.answers → book_refusal l m ≡ Some MemoryFull
   full_refuses other most =
       ap (λ t. cond t (Some MemoryFull) (refusal m.kind (after_first (book_checks (facts_of l m) m))))
-      (and_from (among m.kind loud_kinds) (leb 256 (length l.answers)) (loud_kinds_are m.kind kind ∙ ap not other) (le-leb 256 (length l.answers) most))
+      (and_from (among m.kind loud_kinds) (leb most_answers (length l.answers)) (loud_kinds_are m.kind kind ∙ ap not other) (le-leb most_answers (length l.answers) most))
 
   -- a message that is no repeat, and whose request number is not used
   went_checked : way l m ≡ choose None None (book_refusal l m) → recalled l m ≡ None → (eqb m.kind 9 ≡ false → remembered_of l m ≡ None) → Went l m
-  went_checked is none free = at_first (not (eqb m.kind 9) && leb 256 (length l.answers)) refl
+  went_checked is none free = at_first (not (eqb m.kind 9) && leb most_answers (length l.answers)) refl
     where
       later : List Check
       later = after_first (book_checks (facts_of l m) m)
 
-      book : (not (eqb m.kind 9) && leb 256 (length l.answers)) ≡ false → book_refusal l m ≡ refusal m.kind later
-      book e = cond-false _ (Some MemoryFull) (refusal m.kind later) (ap (λ u. u && leb 256 (length l.answers)) (loud_kinds_are m.kind kind) ∙ e)
+      book : (not (eqb m.kind 9) && leb most_answers (length l.answers)) ≡ false → book_refusal l m ≡ refusal m.kind later
+      book e = cond-false _ (Some MemoryFull) (refusal m.kind later) (ap (λ u. u && leb most_answers (length l.answers)) (loud_kinds_are m.kind kind) ∙ e)
 
-      roomy : (not (eqb m.kind 9) && leb 256 (length l.answers)) ≡ false → eqb m.kind 9 ≡ false → (remembered_of l m ≡ None) × (length l.answers < 256)
-      roomy e other = (free other, leb-false 256 (length l.answers) (ap (λ u. not u && leb 256 (length l.answers)) (sym other) ∙ e))
+      roomy : (not (eqb m.kind 9) && leb most_answers (length l.answers)) ≡ false → eqb m.kind 9 ≡ false → (remembered_of l m ≡ None) × (length l.answers < most_answers)
+      roomy e other = (free other, leb-false most_answers (length l.answers) (ap (λ u. not u && leb most_answers (length l.answers)) (sym other) ∙ e))
 
-      at_later : (not (eqb m.kind 9) && leb 256 (length l.answers)) ≡ false → (o : Option Outcome) → refusal m.kind later ≡ o → Went l m
+      at_later : (not (eqb m.kind 9) && leb most_answers (length l.answers)) ≡ false → (o : Option Outcome) → refusal m.kind later ≡ o → Went l m
       at_later e None r = let b = book e ∙ r in through (is ∙ ap (choose None None) b) none b (roomy e)
       at_later e (Some o) r =
           let b = book e ∙ r in
           let both = and_parts (is_check o) (not (is_forgotten o)) (refused_all (λ x. is_check x && not (is_forgotten x)) m.kind later refl o r) in
           stopped o (is ∙ ap (choose None None) b) both.0 (other_check (not-true _ both.1) none (roomy e))
 
-      at_first : (t : Bool) → (not (eqb m.kind 9) && leb 256 (length l.answers)) ≡ t → Went l m
+      at_first : (t : Bool) → (not (eqb m.kind 9) && leb most_answers (length l.answers)) ≡ t → Went l m
       at_first true e =
-          let both = and_parts (not (eqb m.kind 9)) (leb 256 (length l.answers)) e in
+          let both = and_parts (not (eqb m.kind 9)) (leb most_answers (length l.answers)) e in
           let other = not-true (eqb m.kind 9) both.0 in
-          let most = leb-true 256 (length l.answers) both.1 in
+          let most = leb-true most_answers (length l.answers) both.1 in
           stopped MemoryFull (is ∙ ap (choose None None) (full_refuses other most)) refl (full_memory refl (free other) most)
       at_first false e = at_later e (refusal m.kind later) refl
 
@@ -214,19 +214,29 @@ through_passes l m kind is = by (went l m kind)
     by (through w none passed free) = passed
 
 -- a refusal that is remembered finds memory
-pub stopped_room : (l : Ledger) (m : Fields) → is_kind m.kind ≡ true → (o : Outcome) → way l m ≡ Stopped o → remembers m o ≡ true → length l.answers < 256
+pub stopped_room : (l : Ledger) (m : Fields) → is_kind m.kind ≡ true → (o : Outcome) → way l m ≡ Stopped o → remembers m o ≡ true → length l.answers < most_answers
 stopped_room l m kind o is kept = by (went l m kind)
   where
     parts : (not (eqb m.kind 9) ≡ true) × (not (is_forgotten o) ≡ true)
     parts = and_parts (not (eqb m.kind 9)) (not (is_forgotten o)) kept
 
-    refused : Refused l m o → length l.answers < 256
+    refused : Refused l m o → length l.answers < most_answers
     refused (used_number is taken) = absurd (both_ways _ (ap (λ x. not (is_forgotten x)) is) parts.1)
     refused (full_memory is new most) = absurd (both_ways _ (ap (λ x. not (is_forgotten x)) is) parts.1)
     refused (other_check loud none free) = (free (not-true _ parts.0)).1
 
-    by : Went l m → length l.answers < 256
+    by : Went l m → length l.answers < most_answers
     by (again a w known loud) = absurd (true≢false cc)
     by (retried a w known silent) = absurd (true≢false cc)
     by (stopped x w check why) = let same : x ≡ o = cc in refused (subst (Refused l m) same why)
+    by (through w none passed free) = absurd (true≢false cc)
+
+-- a refusal is not the host's silence
+pub stopped_heard : (l : Ledger) (m : Fields) → is_kind m.kind ≡ true → (o : Outcome) → way l m ≡ Stopped o → eqb (outcome_code o) 25 ≡ false
+stopped_heard l m kind o is = by (went l m kind)
+  where
+    by : Went l m → eqb (outcome_code o) 25 ≡ false
+    by (again a w known loud) = absurd (true≢false cc)
+    by (retried a w known silent) = absurd (true≢false cc)
+    by (stopped x w check why) = let same : x ≡ o = cc in check_apart o HostSilent (ap is_check (sym same) ∙ check) refl
     by (through w none passed free) = absurd (true≢false cc)

@@ -9,7 +9,7 @@ use Rattle.rows.proofs.First.{cases_of_first, row_none, update_found}
 use Rattle.rules.specs.Change.{FitsIn, rows_after}
 use Rattle.rules.specs.Found.{place_in}
 use Rattle.rules.specs.declared.plan.RowWrite.{RowWrite}
-use Rattle.rules.specs.declared.plan.RowWrite.TheVariants.{Nothing, Replace, Append}
+use Rattle.rules.specs.declared.plan.RowWrite.TheVariants.{Replace, Append}
 
 module _ {R : Type 0} (test : R → Bool) where
   -- the row that is found found_place at its place
@@ -47,25 +47,25 @@ module _ {R : Type 0} (test : R → Bool) where
       let both = and_parts (test x) (list_all test rows) all in
       and_from (test x) (list_all test (rows ++ row ∷ [])) both.0 (every_append rows row both.1 ok)
 
-  pub every_after : (most : ℕ) (write : RowWrite R) (rows : List R) → list_all test rows ≡ true → FitsIn most test write rows → list_all test (rows_after write rows) ≡ true
-  every_after most Nothing rows all fits = all
-  every_after most (Replace place row) rows all fits = every_set rows place row all fits.1
-  every_after most (Append row) rows all fits = every_append rows row all fits.1
+  pub every_after : (most : ℕ) (write : Option (RowWrite R)) (rows : List R) → list_all test rows ≡ true → FitsIn most test write rows → list_all test (rows_after write rows) ≡ true
+  every_after most None rows all fits = all
+  every_after most (Some (Replace place row)) rows all fits = every_set rows place row all fits.1
+  every_after most (Some (Append row)) rows all fits = every_append rows row all fits.1
 
 -- how long a list is after a write
 module _ {R : Type 0} (test : R → Bool) (most : ℕ) where
-  pub longer_after : (write : RowWrite R) (rows : List R) → length rows ≤ length (rows_after write rows)
-  longer_after Nothing rows = omega arith
-  longer_after (Replace place row) rows = omega (arith, length-set rows place row)
-  longer_after (Append row) rows = omega (arith, length-append rows (row ∷ []))
+  pub longer_after : (write : Option (RowWrite R)) (rows : List R) → length rows ≤ length (rows_after write rows)
+  longer_after None rows = omega arith
+  longer_after (Some (Replace place row)) rows = omega (arith, length-set rows place row)
+  longer_after (Some (Append row)) rows = omega (arith, length-append rows (row ∷ []))
 
-  pub fits_after : (write : RowWrite R) (rows : List R) → length rows ≤ most → FitsIn most test write rows → length (rows_after write rows) ≤ most
-  fits_after Nothing rows few fits = few
-  fits_after (Replace place row) rows few fits = omega (arith, length-set rows place row)
-  fits_after (Append row) rows few fits = omega (arith, fits.0, length-append rows (row ∷ []))
+  pub fits_after : (write : Option (RowWrite R)) (rows : List R) → length rows ≤ most → FitsIn most test write rows → length (rows_after write rows) ≤ most
+  fits_after None rows few fits = few
+  fits_after (Some (Replace place row)) rows few fits = omega (arith, length-set rows place row)
+  fits_after (Some (Append row)) rows few fits = omega (arith, fits.0, length-append rows (row ∷ []))
 
   -- a larger list has room too
-  pub fits_larger : (more : ℕ) → most ≤ more → (write : RowWrite R) (rows : List R) → FitsIn most test write rows → FitsIn more (λ _. true) write rows
-  fits_larger more larger Nothing rows fits = tt
-  fits_larger more larger (Replace place row) rows fits = (fits.0, refl)
-  fits_larger more larger (Append row) rows fits = (omega (arith, fits.0), refl)
+  pub fits_larger : (more : ℕ) → most ≤ more → (write : Option (RowWrite R)) (rows : List R) → FitsIn most test write rows → FitsIn more (λ _. true) write rows
+  fits_larger more larger None rows fits = tt
+  fits_larger more larger (Some (Replace place row)) rows fits = (fits.0, refl)
+  fits_larger more larger (Some (Append row)) rows fits = (omega (arith, fits.0), refl)

@@ -1,15 +1,14 @@
 -- What a message finds in the books: the rows that it names, and where they stand.
-use Rattle.std.specs.Prelude.{◌≡◌, ℕ, ◌+◌, Bool, cond, List, length, ◌==◌}
+use Rattle.std.specs.Prelude.{◌≡◌, ℕ, ◌+◌, Bool, List, length}
 use Rattle.std.specs.Option.{unwrap_or}
 use Rattle.host.specs.declared.Pair.{Pair}
 use Rattle.rows.specs.First.{first_with}
 use Rattle.wire.specs.declared.message.Fields.{Fields}
-use Rattle.rules.specs.Ledger.{Ledger, facts_of, no_batch, no_purchase, of_batch, of_request, of_xid, remembered_of}
-use Rattle.rules.specs.declared.batch.Batch.{Batch}
+use Rattle.rules.specs.Ledger.{Ledger, facts_of, of_batch, of_xid, purchase_in}
+use Rattle.rules.specs.Rules.{pair_for}
 use Rattle.rules.specs.declared.facts.Facts.{Facts}
 use Rattle.rules.specs.declared.found.Found.{Found}
 use Rattle.rules.specs.declared.found.Places.{Places}
-use Rattle.rules.specs.declared.purchase.Purchase.{Purchase}
 
 -- the place of the first row that passes, or of the next row
 abbrev pub place_in : {R : Type 0} → (R → Bool) → List R → ℕ
@@ -19,25 +18,13 @@ abbrev pub places_of : Ledger → Fields → Places
 places_of l m = record {
   purchase = place_in (of_xid m.xid) l.purchases;
   batch = place_in (of_batch m.course m.batch) l.batches;
-  answer = place_in (of_request m.course m.request) l.answers;
 }
 
 -- a message finds this in these books
 pub record Finds (found : Found) (l : Ledger) (m : Fields) : Type 0 where
   pub facts : found.facts ≡ facts_of l m
-  pub remembered : found.remembered ≡ remembered_of l m
   pub places : found.places ≡ places_of l m
-
--- the purchase and the batch that it names, each a row of zeros where the books have none
-abbrev pub purchase_in : Facts → Purchase
-purchase_in f = unwrap_or f.purchase no_purchase
-
-abbrev pub batch_in : Facts → Batch
-batch_in f = unwrap_or f.batch no_batch
 
 -- the card and the reference that its host call is made under
 abbrev pub pair_in : Facts → Places → Fields → Pair
-pair_in f places m = record {
-  card = cond (m.kind == 1) m.card (purchase_in f).card;
-  reference = places.purchase + 1;
-}
+pair_in f places m = pair_for (purchase_in f) (places.purchase + 1) m

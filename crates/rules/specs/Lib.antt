@@ -3,8 +3,12 @@ pub mod Change
 pub mod Checks
 pub mod Found
 pub mod Ledger
+pub mod MessageCard
 pub mod Outcome
 pub mod Plan
+pub mod Recalled
 pub mod Rules
 pub mod Same
 pub mod Sound
+pub mod Table
+pub mod Way

@@ -1,8 +1,9 @@
 //! A batch in the books, and all that makes or rewrites one.
-ghost use Rattle.std.specs.Prelude.{◌≡◌, ◌≤◌, pos, ◌+ℤ◌, ◌-ℤ◌};
-ghost use Rattle.rules.specs.Ledger.{of_batch};
-ghost use Rattle.rules.specs.Rules.{new_batch, shut, with_total};
-ghost use Rattle.rules.specs.Sound.{most_pence, most_total, size};
+ghost use Rattle.std.specs.Prelude.{◌≡◌, ◌≤◌};
+ghost use Rattle.fields.specs.Kind.{most_pence};
+ghost use Rattle.rules.specs.Ledger.{most_answers, of_batch};
+ghost use Rattle.rules.specs.Rules.{close, minus, new_batch, plus};
+ghost use Rattle.rules.specs.Sound.{most_total, size};
 
 use rows::Keyed;
 use wire::message::Fields;
@@ -10,8 +11,11 @@ use wire::message::Fields;
 /// A batch of a course. A closed one keeps its total.
 #[derive(Clone, Copy, PartialEq, Eq, Debug)]
 pub struct Batch {
+    /// The racecourse that it is of.
     pub course: u32,
+    /// Its number, which the course gives once.
     pub number: u32,
+    /// Whether it is closed, and takes nothing more.
     pub closed: bool,
     /// Captures and credit reversals less credits and capture reversals, in pence.
     pub total: i64,
@@ -69,8 +73,8 @@ impl Batch {
     /// The batch with an amount added to its total.
     pub(crate) fn plus(self, amount: u64) -> Batch
         requires small { amount ≤ most_pence }
-        requires bound { size self.total ≤ most_total 256 }
-        ensures { result ≡ with_total (self.total +ℤ pos amount) self }
+        requires bound { size self.total ≤ most_total most_answers }
+        ensures { result ≡ plus amount self }
     {
         Batch {
             total: self.total + amount as i64,
@@ -81,8 +85,8 @@ impl Batch {
     /// The batch with an amount taken from its total.
     pub(crate) fn minus(self, amount: u64) -> Batch
         requires small { amount ≤ most_pence }
-        requires bound { size self.total ≤ most_total 256 }
-        ensures { result ≡ with_total (self.total -ℤ pos amount) self }
+        requires bound { size self.total ≤ most_total most_answers }
+        ensures { result ≡ minus amount self }
     {
         Batch {
             total: self.total - amount as i64,
@@ -91,8 +95,8 @@ impl Batch {
     }
 
     /// The batch once it is closed.
-    pub(crate) fn shut(self) -> Batch
-        ensures { result ≡ shut self }
+    pub(crate) fn close(self) -> Batch
+        ensures { result ≡ close self }
     {
         Batch {
             closed: true,

@@ -1,27 +1,15 @@
-//! The checks from 8 on: that of the request number, and the table of the others, in the order of specs/Checks.antt.
+//! The checks from 9 on, by the table of specs/Checks.antt.
 ghost use Rattle.std.specs.Prelude.{◌≡◌, map};
 ghost use Rattle.fields.specs.Kind.{kind_number};
-ghost use Rattle.rules.specs.Causes.{holds, kinds_in, row_of};
-ghost use Rattle.rules.specs.Checks.{Numbered, among, book_checks, refusal, refuses, request_checks};
+ghost use Rattle.rules.specs.Causes.{holds};
+ghost use Rattle.rules.specs.Checks.{Numbered, among, book_checks, refusal, refuses};
+ghost use Rattle.rules.specs.Table.{kinds_in, row_of};
 
 use crate::facts::{ANSWERS, BATCHES, Facts, PURCHASES};
 use crate::outcome::Outcome::{self, *};
-use crate::purchase::Purchase;
-use crate::remembered::Remembered;
-use crate::same::same_fields;
+use crate::purchase::{Purchase, message_card};
 use fields::kind::Kind::{self, *};
 use wire::message::Fields;
-
-/// Check 8, which inquiries skip: the course and request number are remembered with other fields
-/// (docs/rules.md, "The checks").
-pub fn request_refusal(kind: Kind, found: Option<Remembered>, m: &Fields) -> Option<Outcome>
-    ensures { result ≡ refusal (kind_number kind) (request_checks found m.now) }
-{
-    match found {
-        Some(r) if kind != Inquiry && !same_fields(&r.fields, m) => Some(RequestNumberUsed),
-        _ => None,
-    }
-}
 
 // Sets of kinds, by the bit of each kind's number.
 const AUTH_REQ: u16 = 1 << AuthReq as u16;
@@ -94,7 +82,7 @@ impl Cause {
             Cause::NoRowForAnswer => f.answers >= ANSWERS,
             Cause::NoSuchPurchase => !known,
             Cause::OtherCourse => known && p.course != m.course,
-            Cause::OtherCard => known && p.card != m.card,
+            Cause::OtherCard => known && p.card != message_card(m),
             Cause::HasDoubt => p.doubt.is_some(),
             Cause::SomeAuthorised => p.authorised > 0,
             Cause::NoRowForPurchase => f.purchases >= PURCHASES && !known,
@@ -165,7 +153,7 @@ fn first_refusal(rows: &[Row], kind: Kind, f: &Facts, m: &Fields) -> Option<Outc
         .map(|row| row.0)
 }
 
-/// The first check from 9 on that refuses a message of this kind (docs/rules.md, "The checks").
+/// The first check from 9 on that refuses a message of this kind (docs/refusals.md, "The checks").
 pub fn book_refusal(kind: Kind, f: &Facts, m: &Fields) -> Option<Outcome>
     ensures value { result ≡ refusal (kind_number kind) (book_checks f.now m.now) }
     ensures numbered { Numbered }

@@ -10,4 +10,3 @@ pub mod plan;
 pub mod purchase;
 pub mod remembered;
 pub mod same;
-pub mod way;

@@ -1,23 +1,21 @@
 //! What is to be done with a message, and what it leaves in the books.
 ghost use Rattle.std.specs.Prelude.{◌≡◌};
 ghost use Rattle.rules.specs.Plan.{refusing, settled_row, settling};
-ghost use Rattle.rules.specs.Rules.{on_put, put_answered, refused_amount, remembers};
+ghost use Rattle.rules.specs.Rules.{on_put, put_answered, remembers};
 
 use crate::batch::Batch;
-use crate::outcome::{Outcome, Performed};
+use crate::outcome::{Outcome, Performed, refused_amount};
 use crate::purchase::Purchase;
-use crate::remembered::Remembered;
-use fields::kind::Kind;
+use crate::remembered::{Remembered, is_inquiry};
 use host::{Pair, PutReply};
 use wire::message::Fields;
 
 /// What is written into one list of rows.
 #[derive(Clone, Copy, PartialEq, Eq, Debug)]
 pub enum RowWrite<R> {
-    Nothing,
     /// The row at this place becomes this one.
     Replace(usize, R),
-    /// This row goes behind the others.
+    /// This row goes at the end.
     Append(R),
 }
 
@@ -25,8 +23,9 @@ pub enum RowWrite<R> {
 #[derive(PartialEq, Eq, Debug, Drop)]
 pub struct Change {
     pub answer: Performed,
-    pub purchase: RowWrite<Purchase>,
-    pub batch: RowWrite<Batch>,
+    /// What is written of its purchase, its batch and its answer.
+    pub purchase: Option<RowWrite<Purchase>>,
+    pub batch: Option<RowWrite<Batch>>,
     pub remembered: RowWrite<Remembered>,
 }
 
@@ -34,6 +33,7 @@ pub struct Change {
 #[derive(PartialEq, Eq, Debug, Drop)]
 pub struct HostPut {
     pub pair: Pair,
+    /// The message, whose amount is put.
     pub fields: Fields,
     /// The purchase, before the host's reply settles it.
     pub purchase: RowWrite<Purchase>,
@@ -52,17 +52,6 @@ pub enum Plan {
     Put(HostPut),
     /// It reads what the host holds for the pair, and nothing changes.
     Read(Pair),
-}
-
-/// The amount of an answer that is no success: the amount asked for an authorisation, 0 for any other.
-fn refused_amount(m: &Fields) -> u64
-    ensures { result ≡ refused_amount m.now }
-{
-    if m.kind == u8::from(Kind::AuthReq) {
-        m.amount
-    } else {
-        0
-    }
 }
 
 fn put_answered(m: &Fields, reply: PutReply) -> Performed
@@ -84,7 +73,6 @@ impl RowWrite<Purchase> {
         ensures { result ≡ settled_row (on_put reply) amount self }
     {
         match self {
-            RowWrite::Nothing => RowWrite::Nothing,
             RowWrite::Replace(place, p) => RowWrite::Replace(place, p.settled(reply, amount)),
             RowWrite::Append(p) => RowWrite::Append(p.settled(reply, amount)),
         }
@@ -103,8 +91,8 @@ impl HostPut {
         };
         Change {
             answer,
-            purchase: self.purchase.settled(reply, self.fields.amount),
-            batch: RowWrite::Nothing,
+            purchase: Some(self.purchase.settled(reply, self.fields.amount)),
+            batch: None,
             remembered: match self.answer_at {
                 Some(place) => RowWrite::Replace(place, row),
                 None => RowWrite::Append(row),
@@ -113,13 +101,12 @@ impl HostPut {
     }
 }
 
-/// Whether a refusal of the message is remembered: not an inquiry's, nor one because the request number is used or the
-/// memory is full.
+/// Whether a refusal of the message is remembered: all are but an inquiry's, and those because the
+/// request number is used or the memory is full.
 fn remembers(m: &Fields, outcome: Outcome) -> bool
     ensures { result ≡ remembers m.now outcome }
 {
-    m.kind != u8::from(Kind::Inquiry)
-        && !matches!(outcome, Outcome::RequestNumberUsed | Outcome::MemoryFull)
+    !is_inquiry(m) && !matches!(outcome, Outcome::RequestNumberUsed | Outcome::MemoryFull)
 }
 
 impl Plan {
@@ -127,17 +114,14 @@ impl Plan {
     pub(crate) fn refuse(m: &Fields, outcome: Outcome) -> Plan
         ensures { result ≡ refusing m.now outcome }
     {
-        let answer = Performed {
-            outcome,
-            amount: refused_amount(m),
-        };
+        let answer = Performed::refused(m, outcome);
         if !remembers(m, outcome) {
             return Plan::Answer(answer);
         }
         Plan::Commit(Change {
             answer,
-            purchase: RowWrite::Nothing,
-            batch: RowWrite::Nothing,
+            purchase: None,
+            batch: None,
             remembered: RowWrite::Append(Remembered { fields: *m, answer }),
         })
     }

@@ -5,7 +5,6 @@ ghost use Rattle.rules.specs.Same.{same_fields};
 
 use wire::message::{Fields, Xid};
 
-// Apart and not inlined, so that going over rows that differ in the first byte is a few instructions a row.
 #[inline(never)]
 fn equal(a: &Xid, b: &Xid) -> bool
     ensures { result ≡ same_bytes a.now b.now }
@@ -13,7 +12,7 @@ fn equal(a: &Xid, b: &Xid) -> bool
     a == b
 }
 
-/// The same XID. Most others differ in the first byte already.
+/// The same XID.
 pub fn same_xid(a: &Xid, b: &Xid) -> bool
     ensures { result ≡ same_bytes a.now b.now }
 {

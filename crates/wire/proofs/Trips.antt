@@ -8,7 +8,8 @@ use Rattle.wire.specs.Bytes.{bytes_of}
 use Rattle.wire.specs.Card.{is_card, well_packed, card_number, packed}
 use Rattle.wire.specs.Checks.{first_failing, unless}
 use Rattle.fields.specs.Field.{width, stands, place, length_under}
-use Rattle.fields.specs.Kind.{is_kind, map_of, length_of, amount_allowed, least_amounts, most_amounts}
+use Rattle.fields.specs.Kind.{is_kind, map_of, length_of, amount_allowed, amount_bounds, kind_from}
+use Rattle.fields.proofs.Bounds.{most_amount}
 use Rattle.wire.specs.Layout.{pieces, laid, piece_in}
 use Rattle.wire.specs.Opening.{map_in, kind_in, reserved, opening_checks, message_in, opening}
 use Rattle.wire.specs.Buffer.{over_front, length_written}
@@ -22,7 +23,7 @@ use Rattle.wire.proofs.Numbers.{number_bytes_of, bytes_of_number}
 use Rattle.wire.proofs.Opens.{Passed, passed, kind_read, accepted_is}
 use Rattle.wire.proofs.Packing.{packed_number, packed_ten, packed_well, number_packed}
 use Rattle.wire.proofs.Pieces.{piece_long, piece_there, piece_lacking, number_zeros}
-use Rattle.fields.proofs.Places.{none_above, reserved_width}
+use Rattle.fields.proofs.Places.{reserved_width}
 
 -- what went through gives the value, and no check failed
 pub went_through : {A : Type 0} (o : Option ℕ) (x y : A) → unless o x ≡ Ok y → (o ≡ None) × (x ≡ y)
@@ -181,9 +182,9 @@ module _ (m : Fields) (msg : Message m) (none : first_failing (writing_checks m)
   small_amount : stands map 5 ≡ true → m.amount < 256 ^ 8
   small_amount there =
       let amount = cond (stands map 5) m.amount 0 in
-      let most = get_or most_amounts m.kind 0 in
-      let within = leb-true amount most (and_parts (leb (get_or least_amounts m.kind 0) amount) (leb amount most) allowed).1 in
-      omega (arith, within, none_above 99999999 most_amounts refl m.kind, cond-true (stands map 5) m.amount 0 there)
+      let bounds = amount_bounds (kind_from m.kind) in
+      let within = leb-true amount bounds.1 (and_parts (leb bounds.0 amount) (leb amount bounds.1) allowed).1 in
+      omega (arith, within, most_amount (kind_from m.kind), cond-true (stands map 5) m.amount 0 there)
 
   amount_read : (message_in b).amount ≡ cond (stands map 5) m.amount 0
   amount_read = value_read (number_from_digits 256) 5 m.amount 0 (omega arith) (λ there. number_bytes_of 8 m.amount (small_amount there)) (number_zeros 256 8)

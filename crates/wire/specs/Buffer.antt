@@ -1,4 +1,5 @@
--- A lent buffer after something was written to its front: the bytes past it stay, and after a refusal all of them.
+-- A lent buffer after something was written to its front: the bytes past it stay, and after a
+-- refusal all of them.
 use Rattle.std.specs.Prelude.{ℕ, List, ◌++◌, length, drop, Ok, Err, Result}
 use Rattle.fields.specs.Refusal.{refusal_number}
 use Rattle.fields.specs.declared.refusal.Refusal.{Refusal}

@@ -1,12 +1,13 @@
--- A card: 13 to 19 decimal digits, the first not 0, that pass the Luhn check; and how ten bytes hold it.
-use Rattle.std.specs.Prelude.{ℕ, ◌+◌, ◌-◌, ◌*◌, ◌/◌, ◌%◌, Bool, cond, ◌&&◌, List, [], ◌∷◌, ◌++◌, length, drop, replicate, ◌==◌, nat_le, nat_lt, slice_index}
+-- A card: 13 to 19 decimal digits, the first not 0, that pass the Luhn check of ISO/IEC 7812-1; and
+-- how ten bytes hold it.
+use Rattle.std.specs.Prelude.{ℕ, ◌+◌, ◌-◌, ◌*◌, ◌/◌, ◌%◌, Bool, if◌then◌else◌, ◌&&◌, List, [], ◌∷◌, ◌++◌, length, drop, replicate, ◌==◌, nat_le, nat_lt, slice_index}
 use Rattle.std.specs.List.{list_all}
 use Rattle.std.specs.Int.Digits.{number_from_digits, digits_of}
 
 -- what a digit counts in the Luhn sum: counted from the last digit every second one is doubled,
 -- and then counts by the sum of its two digits
 abbrev pub weight : ℕ → ℕ → ℕ
-weight after digit = cond (after % 2 == 1) (2 * digit / 10 + 2 * digit % 10) digit
+weight after digit = if after % 2 == 1 then 2 * digit / 10 + 2 * digit % 10 else digit
 
 abbrev pub luhn_sum : List ℕ → ℕ
 luhn_sum [] = 0
@@ -16,7 +17,8 @@ abbrev pub passes_luhn : List ℕ → Bool
 passes_luhn digits = luhn_sum digits % 10 == 0
 
 abbrev pub card_shaped : List ℕ → Bool
-card_shaped digits = nat_le 13 (length digits) && (nat_le (length digits) 19 && nat_lt 0 (slice_index digits 0))
+card_shaped digits =
+    nat_le 13 (length digits) && (nat_le (length digits) 19 && nat_lt 0 (slice_index digits 0))
 
 abbrev pub is_card : List ℕ → Bool
 is_card digits = card_shaped digits && passes_luhn digits
@@ -29,7 +31,7 @@ halves (b ∷ bs) = b / 16 ∷ b % 16 ∷ halves bs
 -- the digits before the first half that is none
 abbrev pub digits_in : List ℕ → List ℕ
 digits_in [] = []
-digits_in (h ∷ hs) = cond (nat_lt h 10) (h ∷ digits_in hs) []
+digits_in (h ∷ hs) = if nat_lt h 10 then h ∷ digits_in hs else []
 
 -- only F from here on
 abbrev pub only_fill : List ℕ → Bool

@@ -24,14 +24,30 @@ kind_in bytes = slice_index bytes 2
 abbrev pub reserved : ℕ → Bool
 reserved map = not (map % 256 == 0)
 
+-- under 3 bytes, field 1 missing, or a reserved bit set
+abbrev pub is_no_message : List ℕ → Bool
+is_no_message bytes =
+    nat_lt (length bytes) 3
+    || (not (stands (map_in bytes) (bit_of Field.Kind)) || reserved (map_in bytes))
+
+-- the map has the card, and its ten bytes hold none
+abbrev pub has_bad_card : List ℕ → Bool
+has_bad_card bytes =
+    stands (map_in bytes) (bit_of Card)
+    && not (well_packed (piece_in (map_in bytes) bytes (bit_of Card)))
+
+-- in pence; 0 where the map lacks it
+abbrev pub amount_in : List ℕ → ℕ
+amount_in bytes = number_from_digits 256 (piece_in (map_in bytes) bytes (bit_of Amount))
+
 abbrev pub opening_checks : List ℕ → List (ℕ × Bool)
 opening_checks bytes =
-    (2, nat_lt (length bytes) 3 || (not (stands (map_in bytes) (bit_of Field.Kind)) || reserved (map_in bytes))) ∷
+    (2, is_no_message bytes) ∷
     (3, not (is_kind (kind_in bytes))) ∷
     (4, not (map_in bytes == map_of (kind_in bytes))) ∷
     (5, not (length bytes == length_of (kind_in bytes))) ∷
-    (6, stands (map_in bytes) (bit_of Card) && not (well_packed (piece_in (map_in bytes) bytes (bit_of Card)))) ∷
-    (7, not (amount_allowed (kind_in bytes) (number_from_digits 256 (piece_in (map_in bytes) bytes (bit_of Amount))))) ∷
+    (6, has_bad_card bytes) ∷
+    (7, not (amount_allowed (kind_in bytes) (amount_in bytes))) ∷
     []
 
 -- the first n of these checks
@@ -65,4 +81,6 @@ opening bytes = unless (first_failing (opening_checks bytes)) (message_in bytes)
 
 -- on a strip of so many bytes, which is the first check
 abbrev pub opening_on : ℕ → List ℕ → Result Fields ℕ
-opening_on strip bytes = unless (first_failing ((1, nat_lt strip strip_length) ∷ opening_checks bytes)) (message_in bytes)
+opening_on strip bytes =
+    unless (first_failing ((1, nat_lt strip strip_length) ∷ opening_checks bytes))
+    (message_in bytes)

@@ -23,13 +23,17 @@ pub record Message (m : Fields) : Type 0 where
 abbrev pub Iff : Type 0 → Type 0 → Type 0
 Iff A B = (A → B) × (B → A)
 
--- opening these bytes gives exactly this message if and only if writing this message gives exactly these bytes
+-- opening these bytes gives exactly this message if and only if writing this message gives exactly
+-- these bytes
 abbrev pub RoundTrip : Type 0
-RoundTrip = (bytes : List ℕ) → Bytes bytes → (m : Fields) → Message m → Iff (opening bytes ≡ Ok m) (writing m ≡ Ok bytes)
+RoundTrip =
+    (bytes : List ℕ) → Bytes bytes → (m : Fields) → Message m →
+    Iff (opening bytes ≡ Ok m) (writing m ≡ Ok bytes)
 
 -- the same of one call of opening, on a strip of so many bytes
 abbrev pub OpeningInverts : ℕ → List ℕ → Result Fields ℕ → Type 0
-OpeningInverts strip bytes answer = strip_length ≤ strip → (m : Fields) → Message m → Iff (answer ≡ Ok m) (writing m ≡ Ok bytes)
+OpeningInverts strip bytes answer =
+    strip_length ≤ strip → (m : Fields) → Message m → Iff (answer ≡ Ok m) (writing m ≡ Ok bytes)
 
 -- and of one call of writing, by what it answers and leaves in the buffer
 abbrev pub WritingInverts : Fields → List ℕ → List ℕ → Result ℕ ℕ → Type 0

@@ -1,5 +1,5 @@
 -- Writing: the bytes of a message, or the number of the first check that fails.
-use Rattle.std.specs.Prelude.{ℕ, Bool, cond, not, ◌&&◌, List, [], ◌∷◌, ◌++◌, replicate, Result, nat_lt}
+use Rattle.std.specs.Prelude.{ℕ, Bool, if◌then◌else◌, not, ◌&&◌, List, [], ◌∷◌, ◌++◌, replicate, Result, nat_lt}
 use Rattle.std.specs.Int.Digits.{digits_of}
 use Rattle.wire.specs.Card.{is_card, packed}
 use Rattle.wire.specs.Checks.{first_failing, unless}
@@ -21,10 +21,10 @@ trimmed m = record {
   kind = m.kind;
   request = m.request;
   course = m.course;
-  xid = cond (has m Xid) m.xid (replicate 20 0);
-  card = cond (has m Card) m.card 0;
-  amount = cond (has m Amount) m.amount 0;
-  batch = cond (has m Batch) m.batch 0;
+  xid = if has m Xid then m.xid else replicate 20 0;
+  card = if has m Card then m.card else 0;
+  amount = if has m Amount then m.amount else 0;
+  batch = if has m Batch then m.batch else 0;
 }
 
 abbrev pub writing_checks : Fields → List (ℕ × Bool)
@@ -41,7 +41,7 @@ parts_of m = record {
   request = m.request;
   course = m.course;
   xid = m.xid;
-  card = cond (has m Card) (packed m.card) (replicate 10 0);
+  card = if has m Card then packed m.card else replicate 10 0;
   amount = m.amount;
   batch = m.batch;
   code = 0;
@@ -55,4 +55,6 @@ writing m = unless (first_failing (writing_checks m)) (bytes_for m)
 
 -- into a buffer of so many bytes, which is the last check
 abbrev pub writing_into : ℕ → Fields → Result (List ℕ) ℕ
-writing_into room m = unless (first_failing (writing_checks m ++ (1, nat_lt room (length_of m.kind)) ∷ [])) (bytes_for m)
+writing_into room m =
+    unless (first_failing (writing_checks m ++ (1, nat_lt room (length_of m.kind)) ∷ []))
+    (bytes_for m)

@@ -1,4 +1,4 @@
-// A card: its digits packed into ten bytes, its number, and the Luhn check.
+//! A card: its digits packed into ten bytes, its number, and the Luhn check of ISO/IEC 7812-1.
 ghost use Rattle.std.specs.Prelude.{◌≡◌, ◌<◌, ◌≤◌, length, take, if◌then◌else◌, Some, None, nat_lt};
 ghost use Rattle.std.specs.List.{count_by};
 ghost use Rattle.std.specs.Option.{option_map};
@@ -6,21 +6,22 @@ ghost use Rattle.std.specs.Int.Digits.{AllBelowBase, digits_of, number_from_digi
 ghost use Rattle.wire.specs.Card.{weight, passes_luhn, halves, digits_in, card_shaped, only_fill, well_filled, is_card, pairs, filled, packed};
 ghost use Rattle.wire.specs.Strip.{spread};
 
-// How many digits a card has at least and at most.
+/// How many digits a card has at least.
 const LEAST_DIGITS: usize = 13;
 
+/// How many digits a card has at most.
 pub const MOST_DIGITS: usize = 19;
 
-// A zero for each, and the halves of ten bytes.
+/// A zero for each, and the halves of ten bytes.
 const PADDED: usize = 39;
 
-// What fills the halves that no digit takes.
+/// What fills the halves that no digit takes.
 const FILL: u8 = 0xF;
 
-// What each digit counts where it is doubled: twice as much, by the sum of its two digits.
+/// What each digit counts where it is doubled: twice as much, by the sum of its two digits.
 const DOUBLED: [u8; 10] = [0, 2, 4, 6, 8, 1, 3, 5, 7, 9];
 
-// What a digit counts, with so many digits after it.
+/// What a digit counts, with so many digits after it.
 fn luhn_weight(digit: u8, after: usize) -> u8
     requires { digit < 10 }
     ensures value { result ≡ weight after digit }
@@ -33,7 +34,7 @@ fn luhn_weight(digit: u8, after: usize) -> u8
     }
 }
 
-// Whether digits with zeros before them pass the Luhn check of ISO/IEC 7812-1. The sum fits a byte.
+/// Whether digits with zeros before them pass the Luhn check. The sum of nineteen fits a byte.
 pub fn passes_luhn(digits: &[u8; MOST_DIGITS]) -> bool
     requires { AllBelowBase 10 digits.now }
     ensures { result ≡ passes_luhn digits.now }
@@ -45,7 +46,8 @@ pub fn passes_luhn(digits: &[u8; MOST_DIGITS]) -> bool
     sum % 10 == 0
 }
 
-// The first halves, so many, with zeros before them: then each place counts by itself, whatever the count.
+/// The first `count` halves at the end of nineteen places, with zeros before them, so that each
+/// place counts in one way in the Luhn sum, whatever the count.
 pub fn spread(all: &[u8; 20], count: usize) -> [u8; MOST_DIGITS]
     requires { count ≤ 19 }
     ensures { result ≡ spread (take count all.now) }
@@ -57,7 +59,7 @@ pub fn spread(all: &[u8; 20], count: usize) -> [u8; MOST_DIGITS]
     digits
 }
 
-// The two halves of each byte, the higher first.
+/// The two halves of each byte, the higher first.
 pub fn split(bytes: &[u8; 10]) -> [u8; 20]
     ensures { result ≡ halves bytes.now }
 {
@@ -69,7 +71,7 @@ pub fn split(bytes: &[u8; 10]) -> [u8; 20]
     all
 }
 
-// How many of the halves are digits.
+/// How many of the halves are digits.
 fn count_digits(all: &[u8; 20]) -> usize
     ensures { result ≡ count_by (λ half. nat_lt half 10) all.now }
 {
@@ -82,7 +84,7 @@ fn count_digits(all: &[u8; 20]) -> usize
     count
 }
 
-// Whether a card may have these digits: 13 to 19, the first not 0.
+/// Whether a card may have these digits: 13 to 19, the first not 0.
 fn card_shaped(digits: &[u8]) -> bool
     ensures { result ≡ card_shaped digits.now }
 {
@@ -95,11 +97,11 @@ fn only_fill(rest: &[u8]) -> bool
     rest.iter().all(|half| *half == FILL)
 }
 
-// The digits in the halves, if these are shaped as a card's and F fills the rest.
+/// The digits in the halves, if these are shaped as a card's and F fills the rest.
 pub fn digits_of(all: &[u8; 20]) -> Option<&[u8]>
-    ensures { option_map (λ digits. digits.now) result ≡ (if well_filled all.now then Some (digits_in all.now) else None) }
+    ensures { option_map (λ digits. digits.now) result
+        ≡ (if well_filled all.now then Some (digits_in all.now) else None) }
 {
-    // With only F past so many halves, these are the digits.
     let (digits, rest) = all.split_at(count_digits(all));
     if !card_shaped(digits) || !only_fill(rest) {
         return None;
@@ -107,7 +109,7 @@ pub fn digits_of(all: &[u8; 20]) -> Option<&[u8]>
     Some(digits)
 }
 
-// The number that these digits write, the highest first.
+/// The number that these digits write, the highest first.
 pub fn number(digits: &[u8]) -> u64
     requires few { length digits.now ≤ 19 }
     requires decimal { AllBelowBase 10 digits.now }
@@ -128,7 +130,7 @@ fn count_decimal(number: u64) -> usize
         .map_or(0, |power| power as usize + 1)
 }
 
-// The digits of a number, so many, from the last to the first, and F after them.
+/// The digits of a number, so many, from the last to the first, and F after them.
 fn fill(number: u64, count: usize) -> [u8; 20]
     requires counted { count ≡ length (digits_of 10 number) }
     requires few { count ≤ 19 }
@@ -143,7 +145,7 @@ fn fill(number: u64, count: usize) -> [u8; 20]
     all
 }
 
-// Two halves to a byte.
+/// Two halves to a byte.
 fn join(all: &[u8; 20]) -> [u8; 10]
     requires { AllBelowBase 16 all.now }
     ensures { result ≡ pairs all.now }
@@ -155,7 +157,7 @@ fn join(all: &[u8; 20]) -> [u8; 10]
     bytes
 }
 
-// The ten bytes that hold this card number, or nothing where it is no card's.
+/// The ten bytes that hold this card number, or nothing where it is no card's.
 pub fn pack(number: u64) -> Option<[u8; 10]>
     ensures { result ≡ (if is_card (digits_of 10 number) then Some (packed number) else None) }
 {

@@ -1,4 +1,4 @@
-// Lays fields out in a buffer by place, as the reader finds them.
+//! Lays fields out in a buffer by place, as the reader finds them.
 ghost use Rattle.std.specs.Prelude.{◌≡◌, ◌≤◌, ◌++◌, length, drop};
 ghost use Rattle.wire.specs.Bytes.{bytes_of};
 ghost use Rattle.fields.specs.Field.{bit_of, width, length_under};
@@ -16,7 +16,7 @@ fn put_map(buffer: &mut [u8], map: Map)
     buffer[0..2].copy_from_slice(&map.bits.to_be_bytes());
 }
 
-// Writes a field at its place, as wide as the table says, if the map has it.
+/// Writes a field at its place, as wide as the table says, if the map has it.
 fn put(buffer: &mut [u8], map: Map, field: Field, bytes: &[u8])
     requires room { length_under map.bits ≤ length buffer.old }
     requires wide { length bytes.now ≡ width (bit_of field) }
@@ -28,13 +28,14 @@ fn put(buffer: &mut [u8], map: Map, field: Field, bytes: &[u8])
     }
 }
 
-// Lays out the map and the fields that stand in it. Where the map is known when this is compiled, so are the places: hence
-// the hints.
+/// Lays out the map and the fields whose bits are set in it. The hints let a map that is known when
+/// this is compiled fix the places too.
 #[inline(always)]
 fn fill(map: Map, parts: &Parts, buffer: &mut [u8])
     requires { length_under map.bits ≤ length buffer.old }
     ensures long { length (laid map.bits parts.now) ≡ length_under map.bits }
-    ensures after { buffer.new ≡ laid map.bits parts.now ++ drop (length_under map.bits) buffer.old }
+    ensures after { buffer.new
+        ≡ laid map.bits parts.now ++ drop (length_under map.bits) buffer.old }
 {
     put_map(buffer, map);
     put(buffer, map, Field::Kind, &parts.kind.to_be_bytes());
@@ -47,11 +48,14 @@ fn fill(map: Map, parts: &Parts, buffer: &mut [u8])
     put(buffer, map, Field::Code, &parts.code.to_be_bytes());
 }
 
-// Lays out a message or an answer and answers how long it is; nothing is written to a buffer that is too short.
+/// Lays out a message or an answer and returns its length. A buffer that is too short is refused
+/// and left as it was.
 #[inline(always)]
 pub fn lay(map: Map, parts: &Parts, buffer: &mut [u8]) -> Result<usize, Refusal>
-    ensures value { numbered result ≡ length_written (laying_into (length buffer.old) map.bits parts.now) }
-    ensures after { buffer.new ≡ over_front (laying_into (length buffer.old) map.bits parts.now) buffer.old }
+    ensures value { numbered result
+        ≡ length_written (laying_into (length buffer.old) map.bits parts.now) }
+    ensures after { buffer.new
+        ≡ over_front (laying_into (length buffer.old) map.bits parts.now) buffer.old }
 {
     let length = map.length();
     if buffer.len() < length {

@@ -1,4 +1,4 @@
-// The message on the wire: bytes to a message and back, and the answers.
+//! The message on the wire: bytes to a message and back, and the answers.
 #![tactic(auto)]
 
 pub mod answer;

@@ -1,11 +1,13 @@
-// The fields of a message.
-/// The name of a purchase: 20 bytes of any values.
+//! The fields of a message.
+
+/// The name of a purchase, as in SET: 20 bytes of any values.
 pub type Xid = [u8; 20];
 
 /// A card by its number, which its digits write in decimal.
 pub type Card = u64;
 
-/// A message before it is written: nothing is known of these numbers. Fields that the kind lacks are taken as 0.
+/// The fields of a message, each any number that fits its width. Writing checks them, and takes
+/// those that the kind lacks as 0; opening gives only what passes its checks.
 #[derive(Clone, Copy, PartialEq, Eq, Debug)]
 pub struct Fields {
     /// the number of the kind; writing refuses one that no kind has

@@ -1,8 +1,9 @@
-// What the fields of a message or an answer hold, the card still packed.
-// Apart from both: a message has its card as a number and no code, an answer has neither card, XID nor batch.
+//! What stands in the bytes of a message or of an answer, field by field.
+
+/// All fields that have a width, the card packed. A field that the map lacks is 0.
 #[derive(Clone, Copy, PartialEq, Eq, Debug)]
 pub struct Parts {
-    // this and the code are bytes and no enums, since those of an answer may be any
+    /// as the code, any byte
     pub kind: u8,
     pub request: u64,
     pub course: u32,

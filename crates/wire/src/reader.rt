@@ -1,4 +1,4 @@
-// Reads the fields of a message by place.
+//! Reads the fields of a message by place.
 ghost use Rattle.std.specs.Prelude.{◌≡◌, ◌+◌, length, None, IfOk, IfErr, OnOk, Some, count_ones};
 ghost use Rattle.fields.specs.Field.{bit_of, width, fields_from};
 ghost use Rattle.fields.specs.Kind.{kind_number, map_of, length_of};
@@ -11,12 +11,12 @@ use fields::field::{Field, Map};
 use fields::kind::Kind;
 use fields::refusal::Refusal;
 
-// The lent message, once its frame is known to be right.
+/// The lent message, once its frame is known to be right.
 #[derive(Drop)]
 struct Reader<'a> {
     message: &'a [u8],
     kind: Kind,
-    // how many fields are still to be handed out
+    /// how many fields are still to be handed out
     left: u32,
     ghost long: { length message.now ≡ length_of (kind_number kind) },
 }
@@ -41,7 +41,8 @@ fn map_in(message: &[u8]) -> Result<Map, Refusal>
     Ok(map)
 }
 
-// The checks of the frame: map, kind and length. The reader hands out as many fields as the map has standing bits.
+/// The checks of the frame: map, kind and length. The reader hands out as many fields as the map
+/// has set bits.
 fn frame(message: &[u8]) -> Result<Reader<'_>, Refusal>
     ensures framed { IfOk result (λ reader. Framed message.now reader.kind) }
     ensures whole { IfOk result (λ reader. reader.message.now ≡ message.now) }
@@ -64,13 +65,17 @@ fn frame(message: &[u8]) -> Result<Reader<'_>, Refusal>
 }
 
 impl Reader<'_> {
-    // The bytes of a field, as many as the table says; zeros where the kind lacks it.
+    /// The bytes of a field, as many as the table says; zeros where the kind lacks it.
     fn field<const N: usize>(&mut self, field: Field) -> [u8; N]
-        requires left { self.old.left ≡ fields_from (map_of (kind_number self.old.kind)) (bit_of field) }
+        requires left { self.old.left
+            ≡ fields_from (map_of (kind_number self.old.kind)) (bit_of field) }
         requires wide { N ≡ width (bit_of field) }
-        ensures value { result ≡ piece_in (map_of (kind_number self.old.kind)) self.old.message.now (bit_of field) }
-        ensures left { self.new.left ≡ fields_from (map_of (kind_number self.old.kind)) (bit_of field + 1) }
-        ensures same { (self.new.message.now ≡ self.old.message.now) × (self.new.kind ≡ self.old.kind) }
+        ensures value { result
+            ≡ piece_in (map_of (kind_number self.old.kind)) self.old.message.now (bit_of field) }
+        ensures left { self.new.left
+            ≡ fields_from (map_of (kind_number self.old.kind)) (bit_of field + 1) }
+        ensures same { (self.new.message.now ≡ self.old.message.now)
+            × (self.new.kind ≡ self.old.kind) }
     {
         let mut bytes = [0; N];
         let map = self.kind.map();
@@ -82,10 +87,11 @@ impl Reader<'_> {
         bytes
     }
 
-    // Each field, by its place, until none is left to hand out.
+    /// Each field, by its place, until none is left to hand out.
     fn parts(&mut self) -> Parts
         requires { self.old.left ≡ count_ones (map_of (kind_number self.old.kind)) }
-        ensures value { result ≡ parts_in (map_of (kind_number self.old.kind)) self.old.message.now }
+        ensures value { result
+            ≡ parts_in (map_of (kind_number self.old.kind)) self.old.message.now }
         ensures all { self.new.left ≡ 0 }
     {
         Parts {
@@ -101,7 +107,7 @@ impl Reader<'_> {
     }
 }
 
-// The kind and the parts of a message whose frame is right.
+/// The kind and the parts of a message whose frame is right.
 pub fn parts_of(message: &[u8]) -> Result<(Kind, Parts), Refusal>
     ensures framed { IfOk result (λ found. Framed message.now found.0) }
     ensures parts { IfOk result (λ found. found.1 ≡ parts_in (map_in message.now) message.now) }

@@ -1,4 +1,4 @@
-// Writing: from the fields of a message to its bytes, or to the first check that fails.
+//! Writing: from the fields of a message to its bytes, or to the first check that fails.
 ghost use Rattle.std.specs.Prelude.{◌≡◌, length, replicate, if◌then◌else◌, Some, None, IfOk, IfErr, OnOk};
 ghost use Rattle.std.specs.Int.Digits.{digits_of};
 ghost use Rattle.wire.specs.Buffer.{over_front, length_written, numbered};
@@ -18,9 +18,12 @@ use fields::field::Field;
 use fields::kind::Kind;
 use fields::refusal::Refusal;
 
-// The packed card: zeros where the kind has none, nothing where the number is no card's.
+/// The packed card: zeros where the kind has none, nothing where the number is no card's.
 fn card_bytes(kind: Kind, number: u64) -> Option<[u8; 10]>
-    ensures { result ≡ (if stands (map_of (kind_number kind)) 4 then (if is_card (digits_of 10 number) then Some (packed number) else None) else Some (replicate 10 0)) }
+    ensures { result
+        ≡ (if stands (map_of (kind_number kind)) 4
+        then (if is_card (digits_of 10 number) then Some (packed number) else None)
+        else Some (replicate 10 0)) }
 {
     if kind.has(Field::Card) {
         card::pack(number)
@@ -35,12 +38,13 @@ fn amount_of(kind: Kind, amount: u64) -> u64
     if kind.has(Field::Amount) { amount } else { 0 }
 }
 
-// The checks of the content, and what is to be laid out.
+/// The checks of the content, and what is to be laid out.
 fn checked(fields: &Fields) -> Result<(Kind, Parts), Refusal>
     ensures kind { IfOk result (λ found. kind_number found.0 ≡ fields.now.kind) }
     ensures parts { IfOk result (λ found. found.1 ≡ parts_of fields.now) }
     ensures passed { OnOk result (first_failing (writing_checks fields.now) ≡ None) }
-    ensures refused { IfErr result (λ e. first_failing (writing_checks fields.now) ≡ Some (refusal_number e)) }
+    ensures refused { IfErr result
+        (λ e. first_failing (writing_checks fields.now) ≡ Some (refusal_number e)) }
 {
     let kind = Kind::try_from(fields.kind)?;
     let card = card_bytes(kind, fields.card).ok_or(Refusal::BadCard)?;
@@ -61,11 +65,15 @@ fn checked(fields: &Fields) -> Result<(Kind, Parts), Refusal>
     Ok((kind, parts))
 }
 
-/// Writes a message into the front of a buffer and answers its length. A refusal leaves the whole buffer.
+/// Writes a message into the front of a buffer and answers its length; the bytes past it stay.
+/// Refused, in this order, are a kind that is none of the nine (`UnknownKind`), a card number that
+/// is no card's (`BadCard`), an amount that the kind doesn't allow (`AmountNotAllowed`), and a
+/// buffer shorter than the message (`ShortBuffer`). A refusal leaves the whole buffer as it was.
 #[inline(always)]
 pub fn write(fields: &Fields, buffer: &mut [u8]) -> Result<usize, Refusal>
     ensures value { numbered result ≡ length_written (writing_into (length buffer.old) fields.now) }
-    ensures after { buffer.new ≡ over_front (writing_into (length buffer.old) fields.now) buffer.old }
+    ensures after { buffer.new
+        ≡ over_front (writing_into (length buffer.old) fields.now) buffer.old }
     ensures inverse { WritingInverts fields.now buffer.old buffer.new (numbered result) }
     ensures round_trip { RoundTrip }
 {

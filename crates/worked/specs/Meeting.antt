@@ -1,5 +1,8 @@
--- The worked examples: a meeting over an account book, and two cases of a bad line over it, by the rules and the rows.
-use Rattle.std.specs.Prelude.{◌≡◌, ℕ, List, [], ◌∷◌, ◌++◌, replicate, Some, None, Ok, Err, Option, Result}
+-- The worked examples: a meeting over an account book, and two cases of a bad line over it, by the
+-- rules and the rows.
+use Rattle.std.specs.Prelude.{◌≡◌, ℕ, List, [], ◌∷◌, ◌++◌, replicate}
+use Rattle.std.specs.Prelude.{Option, Some, None, Result, Ok, Err}
+use Rattle.host.specs.declared.Card.{Card}
 use Rattle.host.specs.declared.Fate.{Fate}
 use Rattle.host.specs.declared.Fate.TheVariants.{Heard, LostGoing, LostReturning}
 use Rattle.hosts.specs.Book.{held_in, book_assents, holds_after, free_hold}
@@ -11,12 +14,13 @@ use Rattle.wire.specs.Bytes.{bytes_of}
 use Rattle.wire.specs.declared.message.Fields.{Fields}
 use Rattle.rules.specs.Ledger.{Ledger, no_ledger}
 use Rattle.rules.specs.Outcome.{outcome_code}
-use Rattle.rules.specs.Rules.{Call, no_call, put, read, Reply, reply_of, call_of, answer_of, books_after}
+use Rattle.rules.specs.Rules.{Call, no_call, put, read, Reply}
+use Rattle.rules.specs.Rules.{reply_of, call_of, answer_of, books_after}
 use Rattle.rules.specs.declared.outcome.Performed.{Performed}
 
 -- the course is 9, the XIDs are twenty 01 and twenty 02, the batch is 7
-abbrev pub card : ℕ
-card = 4111111111111111
+abbrev pub card : Card
+card = record { number = 4111111111111111 }
 
 abbrev pub P : List ℕ
 P = replicate 20 1
@@ -35,14 +39,17 @@ pub record World : Type 0 where
   pub marks : List ℕ
 
 abbrev pub fresh : List ℕ → World
-fresh marks = record { books = no_ledger; holds = free_hold ∷ free_hold ∷ free_hold ∷ free_hold ∷ []; marks = marks }
+fresh marks =
+    record { books = no_ledger; holds = replicate 4 free_hold; marks = marks }
 
 -- what the line over the book makes of a call: its reply, and the rows and marks after
 abbrev fate : World → Fate
 fate w = line_fate (next_fate w.marks) Heard
 
 abbrev reply_to : World → Call → Reply
-reply_to w call = reply_of (λ c f a. fate w) (λ c f. fate w) (held_in w.holds) (book_assents accounts w.holds) call
+reply_to w call =
+    reply_of (λ pair amount. fate w) (λ pair. fate w)
+    (held_in w.holds) (book_assents accounts w.holds) call
 
 abbrev reaches : Fate → List Hold → List Hold → List Hold
 reaches Heard holds after = after
@@ -51,13 +58,14 @@ reaches LostReturning holds after = after
 
 abbrev holds_by : World → Call → List Hold
 holds_by w no_call = w.holds
-holds_by w (put c f a) = reaches (fate w) w.holds (holds_after accounts w.holds c f a)
-holds_by w (read c f) = w.holds
+holds_by w (put pair amount) =
+    reaches (fate w) w.holds (holds_after accounts w.holds pair amount)
+holds_by w (read pair) = w.holds
 
 abbrev marks_by : World → Call → List ℕ
 marks_by w no_call = w.marks
-marks_by w (put c f a) = spent w.marks
-marks_by w (read c f) = spent w.marks
+marks_by w (put pair amount) = spent w.marks
+marks_by w (read pair) = spent w.marks
 
 abbrev pub after : World → Fields → World
 after w m = record {
@@ -91,14 +99,16 @@ abbrev asked : ℕ → ℕ → List ℕ
 asked kind request = kind ∷ bytes_of 8 request ++ bytes_of 4 9
 
 abbrev pub authorisation : ℕ → List ℕ → ℕ → List ℕ
-authorisation request xid amount = 0xFC ∷ 0x00 ∷ (asked 1 request ++ (xid ++ (card_bytes ++ bytes_of 8 amount)))
+authorisation request xid amount =
+    0xFC ∷ 0x00 ∷ (asked 1 request ++ (xid ++ (card_bytes ++ bytes_of 8 amount)))
 
 abbrev reversal : ℕ → List ℕ → ℕ → List ℕ
 reversal request xid amount = 0xF4 ∷ 0x00 ∷ (asked 2 request ++ (xid ++ bytes_of 8 amount))
 
 -- captures and credits
 abbrev money : ℕ → ℕ → List ℕ → ℕ → List ℕ
-money kind request xid amount = 0xF6 ∷ 0x00 ∷ (asked kind request ++ (xid ++ (bytes_of 8 amount ++ bytes_of 4 7)))
+money kind request xid amount =
+    0xF6 ∷ 0x00 ∷ (asked kind request ++ (xid ++ (bytes_of 8 amount ++ bytes_of 4 7)))
 
 abbrev capture_reversal : ℕ → List ℕ → List ℕ
 capture_reversal request xid = 0xF2 ∷ 0x00 ∷ (asked 4 request ++ (xid ++ bytes_of 4 7))
@@ -128,7 +138,9 @@ abbrev pub repeated : List (List ℕ)
 repeated = authorisation 1 P 3000 ∷ reversal 2 P 2000 ∷ authorisation 1 P 3000 ∷ []
 
 abbrev pub held_after_first : List ℕ → ℕ
-held_after_first marks = held_in (world_of (fresh marks) (opening (authorisation 1 P 3000))).holds card 1
+held_after_first marks =
+    held_in (world_of (fresh marks) (opening (authorisation 1 P 3000))).holds
+    (record { card = card; reference = 1 })
 
 abbrev pub answer : ℕ → ℕ → ℕ × Option ℕ
 answer code amount = (code, Some amount)
@@ -136,10 +148,23 @@ answer code amount = (code, Some amount)
 pub record WorkedExamples : Type 0 where
   pub sample_meeting :
       lines (fresh []) meeting
-      ≡ answer 0 3000 ∷ answer 0 3000 ∷ answer 24 2001 ∷ answer 8 2999 ∷ answer 0 0 ∷ answer 18 0 ∷ answer 0 3000 ∷ answer 0 1800 ∷ answer 21 0 ∷ answer 0 1800 ∷ (2, None) ∷ []
+      ≡ answer 0 3000
+      ∷ answer 0 3000
+      ∷ answer 24 2001
+      ∷ answer 8 2999
+      ∷ answer 0 0
+      ∷ answer 18 0
+      ∷ answer 0 3000
+      ∷ answer 0 1800
+      ∷ answer 21 0
+      ∷ answer 0 1800
+      ∷ (2, None)
+      ∷ []
   -- the answer was lost: the stake is held, and the repeat finds it so
-  pub lost_returning : lines (fresh (2 ∷ [])) repeated ≡ answer 25 3000 ∷ answer 12 0 ∷ answer 0 3000 ∷ []
+  pub lost_returning :
+      lines (fresh (2 ∷ [])) repeated ≡ answer 25 3000 ∷ answer 12 0 ∷ answer 0 3000 ∷ []
   pub lost_returning_holds : held_after_first (2 ∷ []) ≡ 3000
   -- the message was lost: nothing is held, and the repeat holds it
-  pub lost_going : lines (fresh (1 ∷ [])) repeated ≡ answer 25 3000 ∷ answer 12 0 ∷ answer 0 3000 ∷ []
+  pub lost_going :
+      lines (fresh (1 ∷ [])) repeated ≡ answer 25 3000 ∷ answer 12 0 ∷ answer 0 3000 ∷ []
   pub lost_going_holds : held_after_first (1 ∷ []) ≡ 0

@@ -1,4 +1,4 @@
-// Opening: from the bytes of a message to the message, or to the first check that fails.
+//! Opening: from the bytes of a message to the message, or to the first check that fails.
 ghost use Rattle.std.specs.Prelude.{◌≡◌, length, replicate, if◌then◌else◌, Some, None, IfOk};
 ghost use Rattle.wire.specs.Answered.{answered};
 ghost use Rattle.wire.specs.Card.{well_packed, card_number};
@@ -18,9 +18,12 @@ use fields::field::Field;
 use fields::kind::Kind;
 use fields::refusal::Refusal;
 
-// The card's number: 0 where the kind has no card, nothing where the bytes hold none.
+/// The card's number: 0 where the kind has no card, nothing where the bytes hold none.
 fn card_number(kind: Kind, bytes: &[u8; 10], digits: &mut [u8; STRIP]) -> Option<u64>
-    ensures { result ≡ (if stands (map_of (kind_number kind)) 4 then (if well_packed bytes.now then Some (card_number bytes.now) else None) else Some 0) }
+    ensures { result
+        ≡ (if stands (map_of (kind_number kind)) 4
+        then (if well_packed bytes.now then Some (card_number bytes.now) else None)
+        else Some 0) }
 {
     if kind.has(Field::Card) {
         strip::card(digits, bytes)
@@ -29,7 +32,7 @@ fn card_number(kind: Kind, bytes: &[u8; 10], digits: &mut [u8; STRIP]) -> Option
     }
 }
 
-// The fields of a message, the card by this number.
+/// The fields of a message, the card by this number.
 fn fields_of(parts: &Parts, card: u64) -> Fields
     ensures { result ≡ fields_with parts.now card }
 {
@@ -57,7 +60,8 @@ fn examine(message: &[u8], digits: &mut [u8; STRIP]) -> Result<Opened, Refusal>
     })
 }
 
-// Opens a message. The digits of its card stand on the strip only meanwhile: on every way out the guard blanks them.
+/// Opens a message. The digits of its card stand on the strip only meanwhile: on every way out the
+/// guard blanks them.
 #[inline(always)]
 fn open_on(message: &[u8], digits: &mut [u8; STRIP]) -> Result<Opened, Refusal>
     ensures value { answered result ≡ opening message.now }
@@ -67,8 +71,10 @@ fn open_on(message: &[u8], digits: &mut [u8; STRIP]) -> Result<Opened, Refusal>
     examine(message, guard.digits)
 }
 
-/// Opens a message. The digits of its card are spread on the strip meanwhile; afterwards the strip's first 19 bytes are
-/// zeros, whatever is answered. A strip under 19 bytes is refused with `Refusal::ShortBuffer` and left as it was.
+/// Opens a message. The digits of its card are spread on the strip meanwhile; afterwards the
+/// strip's first 19 bytes are zeros, whatever is answered, and the rest is as it was. A strip under
+/// 19 bytes is refused with `Refusal::ShortBuffer` and left as it was. Every other refusal is the
+/// first check of the message that fails; the message is only read.
 #[inline(always)]
 pub fn open(message: &[u8], strip: &mut [u8]) -> Result<Opened, Refusal>
     ensures value { answered result ≡ opening_on (length strip.old) message.now }

@@ -3,4 +3,4 @@ use Rattle.hosts.specs.Book.{other_holds}
 use Rattle.hosts.proofs.account_book.left_of.Given as goal
 
 abbrev pub invariant-loop-hold : goal.invariant-loop-hold
-invariant-loop-hold l = l.left + (l.amount + other_holds (take l.hold-index l.holds) l.pair.card l.pair.reference) ≡ l.balance
+invariant-loop-hold l = l.left + (l.amount + other_holds (take l.hold-index l.holds) l.pair) ≡ l.balance

@@ -11,4 +11,4 @@ unfolding leading_six
 split = record { inside = refl; at_the_end = refl; outside = refl; whole = refl }
 
 pub returns : goal.returns
-returns c = record { count = refl; hold = (line, split) }
+returns c = record { hold = (line, split) }

@@ -3,14 +3,14 @@ use Rattle.layers.proofs.Digits.{shortening_none, shortening_more, shortening_va
 use Rattle.layers.proofs.range_split.leading_six.Goals as goal
 
 pub loop-front-init : goal.loop-front-init
-loop-front-init c = shortening_none c.args.card (omega arith)
+loop-front-init c = shortening_none c.args.number (omega arith)
 
 pub loop-front-preserved : goal.loop-front-preserved
-loop-front-preserved c = shortening_more c.args.card c.loop-front.front c.loop-front-test.true c.loop-front.invariant
+loop-front-preserved c = shortening_more c.args.number c.loop-front.front c.loop-front-test.true c.loop-front.invariant
 
 pub returns : goal.returns
 returns c =
     record {
-      value = shortening_value c.args.card c.loop-front.front c.loop-front-test.false c.loop-front.invariant;
-      digits = shortening_digits c.args.card c.loop-front.front c.loop-front-test.false c.loop-front.invariant;
+      value = shortening_value c.args.number c.loop-front.front c.loop-front-test.false c.loop-front.invariant;
+      digits = shortening_digits c.args.number c.loop-front.front c.loop-front-test.false c.loop-front.invariant;
     }

@@ -2,8 +2,8 @@ use Rattle.std.proofs.Common.{rules, tests}
 use Rattle.std.proofs.lemmas.Iterator.{YieldsList-from_slice}
 use Rattle.std.proofs.lemmas.Iterator.Search.{find_from_yields_List}
 use Rattle.fields.specs.Kind.{kind_number}
-use Rattle.rules.specs.Causes.{row_of}
 use Rattle.rules.specs.Checks.{refuses}
+use Rattle.rules.specs.Table.{row_of}
 use Rattle.rules.proofs.Table.{first_refusal}
 use Rattle.rules.proofs.checks.first_refusal.Goals as goal
 

@@ -1,12 +1,9 @@
 use Rattle.std.proofs.Common.{◌≡◌, ◌≤◌, None, sym, ap, ◌∙◌, subst}
-use Rattle.fields.specs.Kind.{kind_number}
+use Rattle.fields.specs.Kind.{kind_number, most_pence}
 use Rattle.wire.specs.declared.message.Fields.{Fields}
-use Rattle.rules.specs.Change.{capturing, closing_batch, crediting, uncapturing, uncrediting}
-use Rattle.rules.specs.Plan.{put_for}
-use Rattle.rules.specs.Rules.{new_purchase}
-use Rattle.rules.specs.Sound.{most_pence}
+use Rattle.rules.specs.Change.{capturing, closing_batch, crediting, reversing_capture, reversing_credit}
+use Rattle.rules.specs.Plan.{own_or_new_row, own_row, put_for}
 use Rattle.rules.specs.declared.plan.Plan.TheVariants.{Commit, Put}
-use Rattle.rules.specs.declared.plan.RowWrite.TheVariants.{Nothing, Append}
 use Rattle.rules.proofs.Plans.{authorises, bounded_found, captures, closes, credits, lowers, planned, reverses_capture, reverses_credit, sound_found}
 use Rattle.rules.proofs.found.Found.carry_out.Goals as goal
 
@@ -18,18 +15,18 @@ returns-in-AuthReq c l finds goes =
     let found = c.args.self.now in
     let message = c.args.message.now in
     let m = message.fields in
-    planned found l m finds (λ f places. Put (put_for f places m (Append (new_purchase m)) None))
+    planned found l m finds (λ f places. Put (put_for f places m (own_or_new_row f places m) None))
     (authorises l m message.known goes (sym c.kind.ensures ∙ ap kind_number c.in-AuthReq.is) (sound_found found l m finds)) (Put c.put.result)
-    (ap Put (c.put.ensures ∙ ap (λ p. put_for found.facts found.places m (Append p) None) (c.new.ensures ∙ ap new_purchase c.fields-m.ensures.value)))
+    (ap Put (c.put.ensures ∙ ap (λ row. put_for found.facts found.places m row None) (c.own_or_new_row.ensures ∙ ap (own_or_new_row found.facts found.places) c.fields-m.ensures.value)))
 
 pub returns-in-AuthRevReq : goal.returns-in-AuthRevReq
 returns-in-AuthRevReq c l finds goes =
     let found = c.args.self.now in
     let message = c.args.message.now in
     let m = message.fields in
-    planned found l m finds (λ f places. Put (put_for f places m Nothing None))
+    planned found l m finds (λ f places. Put (put_for f places m (own_row f places) None))
     (lowers l m message.known goes (sym c.kind.ensures ∙ ap kind_number c.in-AuthRevReq.is) (sound_found found l m finds)) (Put c.put-in-AuthRevReq.result)
-    (ap Put c.put-in-AuthRevReq.ensures)
+    (ap Put (c.put-in-AuthRevReq.ensures ∙ ap (λ row. put_for found.facts found.places m row None) c.own_row.ensures))
 
 pub returns-in-CapReq : goal.returns-in-CapReq
 returns-in-CapReq c l finds goes =
@@ -46,7 +43,7 @@ returns-in-CapRevReq c l finds goes =
     let found = c.args.self.now in
     let message = c.args.message.now in
     let m = message.fields in
-    planned found l m finds (λ f places. Commit (uncapturing f places m))
+    planned found l m finds (λ f places. Commit (reversing_capture f places m))
     (reverses_capture l m message.known goes (small c.fields-m.result m c.fields-m.ensures.value c.fields-m.ensures.small) (sound_found found l m finds) (bounded_found found l m finds)
     (sym c.kind.ensures ∙ ap kind_number c.in-CapRevReq.is))
     (Commit c.reverse_capture.result) (ap Commit c.reverse_capture.ensures)
@@ -66,7 +63,7 @@ returns-in-CredRevReq c l finds goes =
     let found = c.args.self.now in
     let message = c.args.message.now in
     let m = message.fields in
-    planned found l m finds (λ f places. Commit (uncrediting f places m))
+    planned found l m finds (λ f places. Commit (reversing_credit f places m))
     (reverses_credit l m message.known goes (small c.fields-m.result m c.fields-m.ensures.value c.fields-m.ensures.small) (sound_found found l m finds) (bounded_found found l m finds)
     (sym c.kind.ensures ∙ ap kind_number c.in-CredRevReq.is))
     (Commit c.reverse_credit.result) (ap Commit c.reverse_credit.ensures)

@@ -1,0 +1,5 @@
+pub mod Words
+pub mod WordsOf
+pub mod Message
+pub mod Bank
+pub mod Statement
