@@ -46,7 +46,7 @@ fn compose<W: Write>(
         Ok(statement) => statement,
         Err(fault) => return Ok(Some(Obstacle::NoStatement(fault))),
     };
-    if statement == Statement::Fresh {
+    if matches!(statement, Statement::Fresh) {
         *sender = Sender::new(alloc);
     }
     match sender.message(&statement, &mut [0; LONGEST]) {

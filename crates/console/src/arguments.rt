@@ -8,7 +8,7 @@ use std::rt::Env;
 use std::{env, io};
 
 /// What the arguments of a program ask for.
-#[derive(Clone, Copy, PartialEq, Eq, Debug)]
+#[derive(Clone, Copy)]
 pub enum Asked {
     /// To run: there are none.
     Run,

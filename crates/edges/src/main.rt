@@ -12,7 +12,6 @@ use gateway::{Gateway, Handled};
 use host::{Card, Host};
 use hosts::account_book::{Account, AccountBook, Hold};
 use layers::bad_line::{BadLine, LOSES_ANSWER, LOSES_CALL};
-use std::alloc::Global;
 use std::process::ExitCode;
 use wire::answer::FULL_LENGTH;
 use wire::message::{Fields, Xid};
@@ -121,37 +120,50 @@ fn send<H: Host>(gateway: &mut Gateway<H>, fields: &Fields) -> anyhow::Result<Ha
     Ok(handle(gateway, written(fields, &mut buffer)?))
 }
 
-// An authorisation a byte too short, and a byte too long.
-// Each step takes the printer, which stays, and the gateway that it is tried on, which is new.
-fn bad_lengths<H: Host>(rt: &impl Print, gateway: &mut Gateway<H>) -> anyhow::Result<()> {
-    let mut message = [0u8; LONGER];
-    let _ = write(&authorisation(1, 1, 3_000), &mut message);
-    let short = handle(gateway, &message[0..AUTHORISATION - 1]);
-    println!(rt; "an authorisation in 52 bytes: {short}")?;
-    let long = handle(gateway, &message);
-    println!(rt; "an authorisation in 54 bytes: {long}")?;
-    Ok(())
+// A gateway with empty books, over a line with these marks and a book with nothing held in these
+// rows.
+fn new_gateway<'h>(
+    rt: &HostRuntime,
+    holds: &'h mut [Hold],
+    marks: &[u8],
+) -> anyhow::Result<Gateway<BadLine<AccountBook<'h>>>> {
+    let line = BadLine::new(AccountBook::new(&ACCOUNTS, holds), marks);
+    let Ok(gateway) = Gateway::new(rt.alloc(), line) else {
+        return Err(anyhow!("no memory for the books"));
+    };
+    Ok(gateway)
 }
 
-// An authorisation with these bytes in the place of its own.
-fn spoiled(at: usize, bytes: &[u8]) -> [u8; AUTHORISATION]
-    requires { at + length bytes.now ≤ AUTHORISATION }
+// The message with these bytes in the place of its own.
+fn spoiled(mut message: [u8; LONGER], at: usize, bytes: &[u8]) -> [u8; LONGER]
+    requires { at + length bytes.now ≤ LONGER }
 {
-    let mut message = [0u8; AUTHORISATION];
-    let _ = write(&authorisation(1, 1, 3_000), &mut message);
     message[at..at + bytes.len()].copy_from_slice(bytes);
     message
 }
 
-fn bad_fields<H: Host>(rt: &impl Print, gateway: &mut Gateway<H>) -> anyhow::Result<()> {
-    let twelve = handle(gateway, &spoiled(CARD_AT, &TWELVE_DIGITS));
-    println!(rt; "a card of 12 digits: {twelve}")?;
-    let much = handle(gateway, &spoiled(AMOUNT_AT, &TOO_MUCH.to_be_bytes()));
-    println!(rt; "an amount of 100,000,000: {much}")?;
+// Authorisations that cannot be opened, handled one after the other.
+fn malformed<H: Host>(rt: &impl Print, gateway: &mut Gateway<H>) -> anyhow::Result<()> {
+    let mut message = [0u8; LONGER];
+    let _ = write(&authorisation(1, 1, 3_000), &mut message);
+    let twelve = spoiled(message, CARD_AT, &TWELVE_DIGITS);
+    let much = spoiled(message, AMOUNT_AT, &TOO_MUCH.to_be_bytes());
+    for (name, bytes) in [
+        (
+            "an authorisation in 52 bytes",
+            &message[0..AUTHORISATION - 1],
+        ),
+        ("an authorisation in 54 bytes", &message[0..LONGER]),
+        ("a card of 12 digits", &twelve[0..AUTHORISATION]),
+        ("an amount of 100,000,000", &much[0..AUTHORISATION]),
+    ] {
+        let handled = handle(gateway, bytes);
+        println!(rt; "{name}: {handled}")?;
+    }
     Ok(())
 }
 
-// Sends messages in their order, and prints what the shown ones, counted from 1, were answered.
+// Sends messages in their order, and prints what the shown requests were answered.
 fn send_all<H: Host, I: Iterator<Item = Fields> + Drop>(
     rt: &impl Print,
     gateway: &mut Gateway<H>,
@@ -162,8 +174,9 @@ fn send_all<H: Host, I: Iterator<Item = Fields> + Drop>(
     requires can { I.can_next messages }
     requires ends { IsFinite (I.remaining messages) }
 {
-    for (number, message) in (1u64..).zip(messages) {
+    for message in messages {
         let handled = send(gateway, &message)?;
+        let number = message.request;
         if shown.contains(&number) {
             println!(rt; "{name} {number}: {handled}")?;
         }
@@ -189,9 +202,21 @@ fn many_batches<H: Host>(rt: &impl Print, gateway: &mut Gateway<H>) -> anyhow::R
     send_all(rt, gateway, "batch", &[8, 9], messages)
 }
 
+// For purchases, answers and batches, one message more than there are rows.
+fn one_too_many(rt: &HostRuntime, holds: &mut [Hold]) -> anyhow::Result<()> {
+    many_purchases(rt, &mut new_gateway(rt, holds, &[])?)?;
+    many_answers(rt, &mut new_gateway(rt, holds, &[])?)?;
+    many_batches(rt, &mut new_gateway(rt, holds, &[])?)
+}
+
 // An authorisation whose put is lost, what is held then, a reversal, the authorisation again, and
 // what is held then.
-fn lost_put<H: Host>(rt: &impl Print, gateway: &mut Gateway<H>) -> anyhow::Result<()> {
+fn one_lost_put<H: Host>(
+    rt: &impl Print,
+    gateway: &mut Gateway<H>,
+    what: &str,
+) -> anyhow::Result<()> {
+    println!(rt; "{what}:")?;
     for (name, message) in [
         ("authorisation", authorisation(1, 1, 3_000)),
         ("inquiry", inquiry(2, 1)),
@@ -205,34 +230,25 @@ fn lost_put<H: Host>(rt: &impl Print, gateway: &mut Gateway<H>) -> anyhow::Resul
     Ok(())
 }
 
-// A gateway with empty books, over a line with these marks and a book with nothing held in these
-// rows.
-fn new_gateway<'h>(
-    alloc: Global,
-    holds: &'h mut [Hold],
-    marks: &[u8],
-) -> anyhow::Result<Gateway<BadLine<AccountBook<'h>>>> {
-    let line = BadLine::new(AccountBook::new(&ACCOUNTS, holds), marks);
-    let Ok(gateway) = Gateway::new(alloc, line) else {
-        return Err(anyhow!("no memory for the books"));
-    };
-    Ok(gateway)
+// A put of which the line loses the answer, and one that it loses itself.
+fn lost_puts(rt: &HostRuntime, holds: &mut [Hold]) -> anyhow::Result<()> {
+    one_lost_put(
+        rt,
+        &mut new_gateway(rt, holds, &[LOSES_ANSWER])?,
+        "the answer to the first put is lost",
+    )?;
+    one_lost_put(
+        rt,
+        &mut new_gateway(rt, holds, &[LOSES_CALL])?,
+        "the first put itself is lost",
+    )
 }
 
 fn run(rt: &HostRuntime) -> anyhow::Result<()> {
     let mut holds = [Hold::FREE; HOLDS];
-    bad_lengths(rt, &mut new_gateway(rt.alloc(), &mut holds, &[])?)?;
-    bad_fields(rt, &mut new_gateway(rt.alloc(), &mut holds, &[])?)?;
-    many_purchases(rt, &mut new_gateway(rt.alloc(), &mut holds, &[])?)?;
-    many_answers(rt, &mut new_gateway(rt.alloc(), &mut holds, &[])?)?;
-    many_batches(rt, &mut new_gateway(rt.alloc(), &mut holds, &[])?)?;
-    println!(rt; "the answer to the first put is lost:")?;
-    lost_put(
-        rt,
-        &mut new_gateway(rt.alloc(), &mut holds, &[LOSES_ANSWER])?,
-    )?;
-    println!(rt; "the first put itself is lost:")?;
-    lost_put(rt, &mut new_gateway(rt.alloc(), &mut holds, &[LOSES_CALL])?)
+    malformed(rt, &mut new_gateway(rt, &mut holds, &[])?)?;
+    one_too_many(rt, &mut holds)?;
+    lost_puts(rt, &mut holds)
 }
 
 fn main(rt: HostRuntime) -> anyhow::Result<ExitCode> {

@@ -21,7 +21,7 @@ use wire::{STRIP, open, write};
 
 /// The fields of a message, as C lays them out.
 #[repr(C)]
-#[derive(Clone, Copy, PartialEq, Eq, Debug)]
+#[derive(Clone, Copy)]
 pub struct MessageFields {
     pub kind: u8,
     pub request: u64,
@@ -34,7 +34,7 @@ pub struct MessageFields {
 
 /// An account of the account book.
 #[repr(C)]
-#[derive(Clone, Copy, PartialEq, Eq, Debug)]
+#[derive(Clone, Copy)]
 pub struct AccountRow {
     pub card: u64,
     pub balance: u64,
@@ -42,7 +42,7 @@ pub struct AccountRow {
 
 /// A hold of the account book; one of amount 0 is free.
 #[repr(C)]
-#[derive(Clone, Copy, PartialEq, Eq, Debug)]
+#[derive(Clone, Copy)]
 pub struct HoldRow {
     pub card: u64,
     pub reference: u64,
@@ -133,6 +133,29 @@ fn handle_all<H: Host>(gateway: &mut Gateway<H>, records: &[u8], answers: &mut [
     handled
 }
 
+// The accounts that stand in the rows of C.
+fn accounts_of(alloc: Global, rows: &[AccountRow]) -> Result<Vec<Account>, AllocError> {
+    let mut accounts = Vec::new(alloc);
+    for row in rows {
+        accounts.push(Account {
+            card: Card { number: row.card },
+            balance: row.balance,
+        })?;
+    }
+    Ok(accounts)
+}
+
+// Copies the holds back into the rows of C.
+fn give_back(holds: &[Hold], rows: &mut [HoldRow]) {
+    for (row, hold) in rows.iter_mut().zip(holds) {
+        *row = HoldRow {
+            card: hold.pair.card.number,
+            reference: hold.pair.reference,
+            amount: hold.amount,
+        };
+    }
+}
+
 /// The rows that cross are copied into the book's own, and those that it leaves are copied back.
 fn run(
     alloc: Global,
@@ -143,13 +166,7 @@ fn run(
 ) -> Result<usize, AllocError>
     ensures { IfOk result (λ handled. handled * 24 ≤ length answers.old) }
 {
-    let mut known = Vec::new(alloc);
-    for row in accounts {
-        known.push(Account {
-            card: Card { number: row.card },
-            balance: row.balance,
-        })?;
-    }
+    let known = accounts_of(alloc, accounts)?;
     let mut rows = Vec::from_elem(alloc, Hold::FREE, holds.len())?;
     let book = AccountBook::new(known.as_slice(), rows.as_mut_slice());
     let Ok(mut gateway) = Gateway::new(alloc, book) else {
@@ -157,13 +174,7 @@ fn run(
     };
     let handled = handle_all(&mut gateway, records, answers);
     drop(gateway);
-    for (out, row) in holds.iter_mut().zip(rows.iter()) {
-        *out = HoldRow {
-            card: row.pair.card.number,
-            reference: row.pair.reference,
-            amount: row.amount,
-        };
-    }
+    give_back(rows.as_slice(), holds);
     Ok(handled)
 }
 

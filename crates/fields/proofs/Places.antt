@@ -5,7 +5,9 @@ use lib.Count.{ones, ones_step}
 use Rattle.std.proofs.lemmas.Bool.{and_parts, leb-true, cond_both, cases_lt}
 use Rattle.std.proofs.lemmas.Nat.{mod_below, shr-shr}
 use Rattle.std.proofs.lemmas.Bool.Decides.{nat_tests}
-use Rattle.fields.specs.Field.{widths, width, stands, widths_to, fields_to, fields_from}
+use Rattle.fields.specs.Field.{widths, bit_of, width, stands, widths_to, place, length_under, fields_to, fields_from}
+use Rattle.fields.specs.declared.field.Field.{Field}
+use Rattle.fields.specs.declared.field.Field.TheVariants.{Kind}
 
 abbrev pub none_is_above : ℕ → List ℕ → Bool
 none_is_above most [] = true
@@ -24,6 +26,11 @@ width_small bit = none_above 20 widths refl bit
 -- the reserved fields take up nothing
 pub reserved_width : (n : ℕ) → width (suc (suc (suc (suc (suc (suc (suc (suc n)))))))) ≡ 0
 reserved_width n = omega (arith, none_above 0 (drop 8 widths) refl n)
+
+-- the bit of a field in use is one of the sixteen
+pub bit_small : (f : Field) → bit_of f < 16
+bit_small Kind = omega arith
+bit_small _ = omega arith
 
 pub last_or_before : (k n : ℕ) → k < suc n → (k ≡ n) ⊎ (k < n)
 last_or_before k n below = ⊎_elim (λ less. inr less) (λ above. inl (omega arith)) (cases_lt k n)
@@ -47,11 +54,29 @@ widths_to_room map bit (suc n) before there =
     (λ below. omega (arith, widths_to_room map bit n below there))
     (last_or_before bit n before)
 
+-- so it ends within a message with this map
+pub ends_within : (map : ℕ) (f : Field) → stands map (bit_of f) ≡ true → place map (bit_of f) + width (bit_of f) ≤ length_under map
+ends_within map f there = omega (arith, widths_to_room map (bit_of f) 16 (bit_small f) there)
+
+-- no fewer stand up to a later bit
+fields_to_grows : (map bit n : ℕ) → bit ≤ n → fields_to map bit ≤ fields_to map n
+fields_to_grows map bit zero below = let none : bit ≡ 0 = omega arith in omega (arith, ap (fields_to map) none)
+fields_to_grows map bit (suc n) below =
+    ⊎_elim
+    (λ same. omega (arith, ap (fields_to map) same))
+    (λ before. omega (arith, fields_to_grows map bit n (omega arith)))
+    (last_or_before bit (suc n) (omega arith))
+
 -- past a field that stands one fewer stands, past a field that is lacking as many
-pub fields_from_there : (map bit : ℕ) → stands map bit ≡ true → fields_from map (bit + 1) ≡ fields_from map bit - 1
-fields_from_there map bit there = rw add-one (let one = ap {B = ℕ} (λ t. cond t 1 0) there in omega (arith, one))
+pub fields_from_there : (map bit : ℕ) → bit < 16 → stands map bit ≡ true → fields_from map bit ≡ fields_from map (bit + 1) + 1
+unfolding fields_from
+fields_from_there map bit within there =
+    let one = ap {B = ℕ} (λ t. cond t 1 0) there in
+    let next = ap (fields_to map) (add-one bit) in
+    omega (arith, one, next, fields_to_grows map (suc bit) 16 (omega arith))
 
 pub fields_from_lacking : (map bit : ℕ) → stands map bit ≡ false → fields_from map (bit + 1) ≡ fields_from map bit
+unfolding fields_from
 fields_from_lacking map bit lacks = rw add-one (let none = ap {B = ℕ} (λ t. cond t 1 0) lacks in omega (arith, none))
 
 bit_counts : (q : ℕ) → q % 2 ≡ cond (eqb (q % 2) 1) 1 0

@@ -44,5 +44,5 @@ fields_to map zero = 0
 fields_to map (suc n) = fields_to map n + (if stands map n then 1 else 0)
 
 -- how many stand from the field of this bit on
-abbrev pub fields_from : ℕ → ℕ → ℕ
+unfoldable pub fields_from : ℕ → ℕ → ℕ
 fields_from map bit = fields_to map 16 - fields_to map bit

@@ -9,7 +9,7 @@ pub const FIELDS: usize = 16;
 const WIDTHS: [usize; 16] = [1, 8, 4, 20, 10, 8, 4, 1, 0, 0, 0, 0, 0, 0, 0, 0];
 
 /// The fields in use, 1 to 8, each with its bit counted from the highest.
-#[derive(Clone, Copy, PartialEq, Eq, Hash, Debug)]
+#[derive(Clone, Copy, PartialEq, Eq, Debug)]
 pub enum Field {
     /// Field 1: which of the nine messages it is.
     Kind = 0,
@@ -53,7 +53,7 @@ fn width_at(bit: usize) -> usize
 }
 
 /// Which fields a message has: a bit for each, the highest for field 1.
-#[derive(Clone, Copy, PartialEq, Eq, Hash, Debug)]
+#[derive(Clone, Copy, PartialEq, Eq, Debug)]
 pub struct Map {
     /// the map as a number, as its two bytes write it, the higher first
     pub bits: u16,

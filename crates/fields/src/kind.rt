@@ -13,7 +13,7 @@ pub const MOST_PENCE: u64 = 99_999_999;
 
 /// The nine kinds of message, each with its number on the wire. Any other number is refused with
 /// `Refusal::UnknownKind`.
-#[derive(Clone, Copy, PartialEq, Eq, Hash, Debug)]
+#[derive(Clone, Copy, PartialEq, Eq, Debug)]
 pub enum Kind {
     /// An authorisation sets an amount aside on a card; SET's AuthReq.
     AuthReq = 1,

@@ -31,7 +31,7 @@ pub fn first_record(bytes: &[u8]) -> Option<Result<(&[u8], &[u8]), Cut>>
 }
 
 /// The messages of a file in order. A cut record is the last thing that comes.
-#[derive(Clone, Copy, Debug)]
+#[derive(Clone, Copy)]
 pub struct Records<'a> {
     rest: &'a [u8],
 }
@@ -57,12 +57,13 @@ impl<'a> Iterator for Records<'a> {
 
     #[tactic(auto, using(crate::proofs::Recorded::whole_first))]
     fn next(&mut self) -> Option<Result<&'a [u8], Cut>> {
-        match first_record(self.rest)? {
-            Ok((message, after)) => {
+        match first_record(self.rest) {
+            None => None,
+            Some(Ok((message, after))) => {
                 self.rest = after;
                 Some(Ok(message))
             }
-            Err(Cut) => {
+            Some(Err(Cut)) => {
                 self.rest = &[];
                 Some(Err(Cut))
             }

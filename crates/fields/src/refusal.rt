@@ -7,7 +7,7 @@ use std::fmt;
 
 /// Why a message is not opened or not written, each reason with the number that an answer has for
 /// it. What a refusal leaves is said at the call that gives it.
-#[derive(Clone, Copy, PartialEq, Eq, Hash, Debug)]
+#[derive(Clone, Copy, PartialEq, Eq, Debug)]
 pub enum Refusal {
     /// A lent buffer or the digit strip is too short.
     ShortBuffer = 1,

@@ -44,7 +44,7 @@ impl Model for Books {
 }
 
 /// The first row that has the key, and its place; where no row has it, the place of the next row.
-#[tactic(auto, using(rows::proofs::First::stands_from_cases, rows::proofs::First::first_from_cases))]
+#[tactic(auto, using(rows::proofs::First::stands_from_cases))]
 fn locate<R: Keyed + Copy>(rows: &[R], key: &R::Key) -> (Option<R>, usize)
     ensures row { result.0 ≡ row_with (λ row. R.same row key.now) rows.now }
     ensures place { result.1 ≡ place_in (λ row. R.same row key.now) rows.now }

@@ -30,7 +30,7 @@ pub struct Pair {
 }
 
 /// What becomes of a call on its way to the host and back.
-#[derive(Clone, Copy, PartialEq, Eq, Debug)]
+#[derive(Clone, Copy)]
 pub enum Fate {
     /// The host hears the call, and its reply comes back.
     Heard,
@@ -95,11 +95,11 @@ impl fmt::Display for PutReply {
     ghost output = { λ reply. Some (put_word reply) };
 
     fn fmt<W: fmt::Write>(&self, f: &mut fmt::Formatter<W>) -> fmt::Result {
-        match self {
-            PutReply::Done => write!(f, "done"),
-            PutReply::Refused => write!(f, "refused"),
-            PutReply::Silent => write!(f, "silent"),
-        }
+        f.write_str(match self {
+            PutReply::Done => "done",
+            PutReply::Refused => "refused",
+            PutReply::Silent => "silent",
+        })
     }
 }
 
@@ -109,7 +109,7 @@ impl fmt::Display for ReadReply {
     fn fmt<W: fmt::Write>(&self, f: &mut fmt::Formatter<W>) -> fmt::Result {
         match self {
             ReadReply::Holds(amount) => write!(f, "holds {amount}"),
-            ReadReply::Silent => write!(f, "silent"),
+            ReadReply::Silent => f.write_str("silent"),
         }
     }
 }

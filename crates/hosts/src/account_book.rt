@@ -28,7 +28,7 @@ pub struct Hold {
 }
 
 /// What a hold is looked for by.
-#[derive(Clone, Copy, PartialEq, Eq, Debug)]
+#[derive(Clone, Copy)]
 pub enum HoldKey {
     /// The pair that it stands for.
     Of(Pair),
@@ -93,18 +93,23 @@ fn place_for(holds: &[Hold], pair: Pair) -> Option<usize>
     search(holds, &HoldKey::Of(pair)).or_else(|| search(holds, &HoldKey::Free))
 }
 
-/// What the balance leaves once the amount and the card's holds under other references are taken
-/// from it, if it covers them.
-fn left_of(balance: Amount, holds: &[Hold], pair: Pair, amount: Amount) -> Option<Amount>
-    ensures { is_some result ≡ nat_le (amount + other_holds holds.now pair) balance }
+/// Whether the balance covers the amount and the card's holds under other references.
+fn covers(balance: Amount, holds: &[Hold], pair: Pair, amount: Amount) -> bool
+    ensures { result ≡ nat_le (amount + other_holds holds.now pair) balance }
 {
-    let mut left = balance.checked_sub(amount)?;
+    if amount > balance {
+        return false;
+    }
+    let mut left = balance - amount;
     for hold in holds {
         if hold.pair.card == pair.card && hold.pair.reference != pair.reference {
-            left = left.checked_sub(hold.amount)?;
+            if hold.amount > left {
+                return false;
+            }
+            left -= hold.amount;
         }
     }
-    Some(left)
+    true
 }
 
 /// Frees the row of the pair. A pair has at most one in a book that was made cleared; where a lent
@@ -197,8 +202,7 @@ impl Keeper for AccountBook<'_> {
     fn assents(&self, pair: Pair, found: Option<usize>, amount: Amount) -> bool {
         match search(self.accounts, &pair.card) {
             Some(place) => {
-                left_of(self.accounts[place].balance, self.holds, pair, amount).is_some()
-                    && found.is_some()
+                covers(self.accounts[place].balance, self.holds, pair, amount) && found.is_some()
             }
             None => false,
         }

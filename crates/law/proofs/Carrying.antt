@@ -59,8 +59,8 @@ module _ {H : Type 0} (held : H → Holdings) (bytes : List ℕ) (m : Fields) (a
       (l, held host, reached, are, subst (λ o. HandledByRules o (full a) l (held host) l' (held host')) (sym is) (record { reply = reply; called = called; answer = ap full answer; books = books }))
 
   again : (h : List Entry) → Reached h l (held host) → AnsweredAgain h bytes (full a) l host l' host'
-  again h reached other last given loud =
-      let r = subst (λ o. RepeatsOf o last l) is ((law_over_runs h l (held host) reached).repeats bytes other last given loud) in
+  again h reached other last given not_silent =
+      let r = subst (λ o. RepeatsOf o last l) is ((law_over_runs h l (held host) reached).repeats bytes other last given not_silent) in
       (ap full answer ∙ r.same_answer reply, books ∙ r.same_books reply, uncalled r.makes_no_call)
 
   pub carries : CarriesLaw held bytes (full a) l host l' host'
@@ -71,5 +71,5 @@ pub carries_short : {H : Type 0} (held : H → Holdings) (bytes : List ℕ) (num
 carries_short held bytes number are is l l' host host' books same h reached = record {
   lawful = lawful held _ l' host'
       (l, held host, reached, are, subst (λ o. HandledByRules o (short number) l (held host) l' (held host')) (sym is) (record { answer = refl; books = books; same = λ pair. ap (λ x. held x pair) same }));
-  repeated = λ other last given loud. (subst (λ o. RepeatsOf o last l) is ((law_over_runs h l (held host) reached).repeats bytes other last given loud), books, same);
+  repeated = λ other last given not_silent. (subst (λ o. RepeatsOf o last l) is ((law_over_runs h l (held host) reached).repeats bytes other last given not_silent), books, same);
 }

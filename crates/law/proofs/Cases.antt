@@ -73,7 +73,7 @@ module _ (l : Ledger) (m : Fields) (held held' : Holdings) where
       Goes call a books = Replies call reply held held' → P a books
 
       at : Went l m → Goes (call_of l m) (answer_of l m reply) (books_after l m reply)
-      at (again a w known loud) = by_way l m reply Goes (Again a) w (λ called. each.repeated a known called.1)
+      at (again a w known not_silent) = by_way l m reply Goes (Again a) w (λ called. each.repeated a known called.1)
       at (retried a w known silent) =
           by_way l m reply Goes Retry w (λ called. subst (λ x. P (put_answered m x) (books_by Retry l m x)) (sym called.3)
           (each.put_again (record { answer = a; is = known; silent = silent }) called.0 (called.0, called.1, called.2, refl, called.4)))

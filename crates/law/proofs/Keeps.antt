@@ -161,9 +161,9 @@ module _ (l : Ledger) (m : Fields) (held held' : Holdings) (kept : Kept l) (pass
     recalls_at : (reply : Reply) (l' : Ledger) → l'.answers ≡ l.answers → (n : Fields)
         → recalled (remembered m (answered l m reply) l') n ≡ cond (same_fields m n) (Some (answered l m reply)) (recalled l n)
     recalls_at reply l' same n =
-        let loud : eqb m.kind 9 ≡ false = ap (λ j. eqb j 9) is ∙ other in
+        let no_inquiry : eqb m.kind 9 ≡ false = ap (λ j. eqb j 9) is ∙ other in
         recalled_noted l (remembered m (answered l m reply) l') m n (answered l m reply)
-        (remembered_answers m (answered l m reply) l l' (keeps_answer m (outcome_of reply) loud (replied_kept reply)) same) (passed.free loud).0
+        (remembered_answers m (answered l m reply) l l' (keeps_answer m (outcome_of reply) no_inquiry (replied_kept reply)) same) (passed.free no_inquiry).0
 
     -- an authorisation or its reversal
     kept_put : (r : PutReply) (l₁ l' : Ledger) → l'.answers ≡ l.answers → PutRow l l₁ m → (eqb k 1 || eqb k 2) ≡ true → (booked_of l m.xid).doubt ≡ None
@@ -246,5 +246,5 @@ kept_step l m reply held held' kind kept = by_ways l m held held' (λ a books. K
     refused : (o : Outcome) → is_check o ≡ true → Refused l m o → Kept (remembered m (refused_with m o) l)
     refused o check (used_number is otherwise) = kept_forgotten l m o kept (ap is_forgotten is)
     refused o check (full_memory is new most) = kept_forgotten l m o kept (ap is_forgotten is)
-    refused o check (other_check loud absent free) =
+    refused o check (other_check not_forgotten absent free) =
         kept_refused l m o kept absent (check_apart o HostSilent check refl) (λ e. (free (not-true _ (and_parts (not (eqb m.kind 9)) _ e).0)).0)

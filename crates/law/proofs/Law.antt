@@ -51,7 +51,7 @@ start l held (empty, nothing) =
 module _ (h : List Entry) (bytes : List ℕ) (given : Given) (l₀ l : Ledger) (held₀ held : Holdings) (before : Everything h l₀ held₀) where
   -- what these bytes were last answered they are answered again
   again : (o : Result Fields ℕ) → opened bytes ≡ o → NoInquiry bytes → (last : Given) → last_given h bytes ≡ Some last → (last.code ≡ 25 → ⊥) → RepeatsOf o last l₀
-  again o is other last told loud = subst (λ x. RepeatsOf x last l₀) is (repeats_from h l₀ before.recalls bytes other last told loud)
+  again o is other last told not_silent = subst (λ x. RepeatsOf x last l₀) is (repeats_from h l₀ before.recalls bytes other last told not_silent)
 
   -- bytes that are not opened
   refused : (number : ℕ) → opened bytes ≡ Err number → Bytes bytes → RefusedAtOpening number given l₀ held₀ l held → Everything (entry bytes given ∷ h) l held
@@ -66,7 +66,7 @@ module _ (h : List Entry) (bytes : List ℕ) (given : Given) (l₀ l : Ledger) (
         sums = sums_refused h l₀ bytes number is before.sums;
         batched = batched_refused h l₀ bytes number is before.batched;
         granted = granted_refused h bytes number is before.granted;
-        agree = ((λ other last told loud. again (Err number) is other last told loud), before.agree);
+        agree = ((λ other last told not_silent. again (Err number) is other last told not_silent), before.agree);
       }))
 
   -- a message that is performed
@@ -83,7 +83,7 @@ module _ (h : List Entry) (bytes : List ℕ) (given : Given) (l₀ l : Ledger) (
         sums = sums_step h l₀ bytes m p.reply held₀ held are is before.kept before.recalls before.shows before.sums p.called;
         batched = batched_step h l₀ bytes m p.reply held₀ held are is before.kept before.recalls before.batched p.called;
         granted = granted_step h l₀ bytes m p.reply held₀ held are is before.kept before.holding before.recalls before.granted p.called;
-        agree = ((λ other last told loud. (again (Ok m) is other last told loud).same_answer p.reply), before.agree);
+        agree = ((λ other last told not_silent. (again (Ok m) is other last told not_silent).same_answer p.reply), before.agree);
       }))
 
   -- any bytes

@@ -189,20 +189,20 @@ module _ (l : Ledger) (m : Fields) (kind : is_kind m.kind ≡ true) (given : Giv
 
   -- one of the two, unless it was 25
   repeats_known : eqb m.kind 9 ≡ false → (given.code ≡ 25 → ⊥) → Known l m given → Repeats m given l
-  repeats_known other loud (known a same gives) =
+  repeats_known other not_silent (known a same gives) =
       repeats_again a (goes other false (recalled_not_used (remembered_of l m) m a same) (Some a) same _ refl
-      ∙ cond-false _ _ _ (ne_eqb _ 25 (λ silent. loud (ap (λ g. g.code) gives ∙ silent)))) gives
-  repeats_known other loud (known_used otherwise gives) = repeats_refused RequestNumberUsed refl (goes other true otherwise _ refl _ refl) gives
-  repeats_known other loud (known_full new most gives) =
+      ∙ cond-false _ _ _ (ne_eqb _ 25 (λ silent. not_silent (ap (λ g. g.code) gives ∙ silent)))) gives
+  repeats_known other not_silent (known_used otherwise gives) = repeats_refused RequestNumberUsed refl (goes other true otherwise _ refl _ refl) gives
+  repeats_known other not_silent (known_full new most gives) =
       repeats_refused MemoryFull refl (goes other false (ap (λ o. used_otherwise o m) new) None (ap (λ o. repeat_in o m) new) (Some MemoryFull) (full_refuses l m kind other most)) gives
 
 -- so what was answered otherwise than by 25 is answered again
 pub repeats_from : (h : List Entry) (l : Ledger) → Recalls h l → (bytes : List ℕ) → NoInquiry bytes → (given : Given)
     → last_given h bytes ≡ Some given → (given.code ≡ 25 → ⊥) → RepeatsOf (opened bytes) given l
-repeats_from h l r bytes other given last loud = by_opening (opened bytes) refl
+repeats_from h l r bytes other given last not_silent = by_opening (opened bytes) refl
   where
     by_opening : (o : Result Fields ℕ) → opened bytes ≡ o → RepeatsOf o given l
     by_opening (Err number) e = sym (r.shorts bytes given number e last)
     by_opening (Ok m) e =
-        let loud-kind = ne_eqb m.kind 9 (other m e) in
-        repeats_known l m (kind_of bytes m e) given loud-kind loud (r.answers bytes m given (r.only_bytes bytes given last) e loud-kind last)
+        let no_inquiry = ne_eqb m.kind 9 (other m e) in
+        repeats_known l m (kind_of bytes m e) given no_inquiry not_silent (r.answers bytes m given (r.only_bytes bytes given last) e no_inquiry last)

@@ -88,7 +88,7 @@ module _ (l l' : Ledger) (m : Fields) (x : Performed) where
     elsewhere = recalls_other recalls;
     still_used = λ n is. ap (λ o. used_otherwise o n) (stays n (there (remembered_of l n) n is)) ∙ is;
     still_full = λ n none most. absurd (omega arith);
-    here = λ loud. recalls_here recalls (ap (λ o. is_done (repeat_in o m)) new);
+    here = λ no_inquiry. recalls_here recalls (ap (λ o. is_done (repeat_in o m)) new);
   }
     where
       recalls : (n : Fields) → recalled l' n ≡ cond (same_fields m n) (Some x) (recalled l n)
@@ -107,7 +107,7 @@ module _ (l l' : Ledger) (m : Fields) (x : Performed) where
     elsewhere = recalls_other recalls;
     still_used = λ n is. used_by_fields (remembered_of l' n) n ∙ ap (λ o. used_by o n) (stays n) ∙ sym (used_by_fields (remembered_of l n) n) ∙ is;
     still_full = λ n none most. (none_still n none, subst (λ k. most_answers ≤ k) (sym long) most);
-    here = λ loud. recalls_here recalls (ap is_done was ∙ ap (λ k. eqb k 0) (eqb-true (outcome_code b.outcome) 25 silent));
+    here = λ no_inquiry. recalls_here recalls (ap is_done was ∙ ap (λ k. eqb k 0) (eqb-true (outcome_code b.outcome) 25 silent));
   }
     where
       recalls : (n : Fields) → recalled l' n ≡ cond (same_fields m n) (Some x) (recalled l n)
@@ -132,12 +132,12 @@ module _ (l : Ledger) (m : Fields) where
   -- an answer that is remembered unless it is an inquiry's
   after_remembered : (x : Performed) (moved_books : Ledger) → moved_books.answers ≡ l.answers → is_forgotten x.outcome ≡ false
       → (eqb m.kind 9 ≡ false → (remembered_of l m ≡ None) × (length l.answers < most_answers)) → After l (remembered m x moved_books) m x
-  after_remembered x books same loud free = by_nine (eqb m.kind 9) refl
+  after_remembered x books same not_forgotten free = by_nine (eqb m.kind 9) refl
     where
       by_nine : (nine : Bool) → eqb m.kind 9 ≡ nine → After l (remembered m x books) m x
       by_nine true e =
           after_same l _ m x (ap (λ t. (cond t (noted m x books) books).answers) (forgets_inquiry m x.outcome e) ∙ same) (λ other. absurd (both_ways _ other e))
-      by_nine false e = after_noted l _ m x (remembered_answers m x l books (keeps_answer m x.outcome e loud) same) (free e).0 (free e).1
+      by_nine false e = after_noted l _ m x (remembered_answers m x l books (keeps_answer m x.outcome e not_forgotten) same) (free e).0 (free e).1
 
   -- a refusal that is not remembered
   after_forgotten : (o : Outcome) → is_forgotten o ≡ true → is_check o ≡ true → recalled l m ≡ None → Known l m (full (refused_with m o))
@@ -178,4 +178,4 @@ after_step l m reply held held' kind called =
         after_forgotten l m o (ap is_forgotten is) check (used_not_recalled (remembered_of l m) m otherwise) (known_used otherwise (ap (λ x. full (refused_with m x)) is))
     refused o check (full_memory is new most) =
         after_forgotten l m o (ap is_forgotten is) check (ap (λ r. repeat_in r m) new) (known_full new most (ap (λ x. full (refused_with m x)) is))
-    refused o check (other_check loud none free) = after_remembered l m (refused_with m o) l refl loud free
+    refused o check (other_check not_forgotten none free) = after_remembered l m (refused_with m o) l refl not_forgotten free

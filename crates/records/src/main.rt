@@ -8,6 +8,7 @@ use console::shown::{Hexadecimal, Masked};
 use console::stream::{LONGEST, holds_record, read_record};
 use fields::field::Field;
 use fields::kind::Kind;
+use fields::record::Cut;
 use std::io::{BufReader, BufWriter, Read, Write};
 use std::process::ExitCode;
 use std::{fmt, io};
@@ -61,33 +62,47 @@ impl fmt::Display for Shown<'_> {
     }
 }
 
-// Whether writing the fields again gives the message.
-fn is_written_as(fields: &Fields, message: &[u8]) -> bool {
+// What writing the fields again gives, beside the message that they are of.
+fn written_again(fields: &Fields, message: &[u8]) -> &'static str {
     let mut buffer = [0u8; LONGEST];
-    write(fields, &mut buffer).is_ok_and(|length| buffer.get(..length) == Some(message))
+    if write(fields, &mut buffer).is_ok_and(|length| buffer.get(..length) == Some(message)) {
+        "the same bytes"
+    } else {
+        "OTHER BYTES"
+    }
 }
 
-// Whether the message was opened.
-fn show_record<W: Write>(out: &mut W, message: &[u8]) -> io::Result<bool> {
+// How many messages were opened, and how many refused.
+#[derive(Clone, Copy)]
+struct Counts {
+    opened: u64,
+    refused: u64,
+}
+
+// Shows the record under its number, and counts its message.
+fn show_record<W: Write>(
+    out: &mut W,
+    number: u64,
+    record: Result<&[u8], Cut>,
+    counts: &mut Counts,
+) -> io::Result<()> {
+    write!(out, "{number} ")?;
+    let message = match record {
+        Ok(message) => message,
+        Err(cut) => return writeln!(out, "{cut}"),
+    };
     let mut strip = [0u8; STRIP];
     match open(message, &mut strip) {
         Err(refusal) => {
-            writeln!(out, "refused {}: {refusal}", u8::from(refusal))?;
-            Ok(false)
+            counts.refused = counts.refused.saturating_add(1);
+            writeln!(out, "refused {}: {refusal}", u8::from(refusal))
         }
         Ok(opened) => {
+            counts.opened = counts.opened.saturating_add(1);
             let fields = opened.fields();
-            let again = if is_written_as(&fields, message) {
-                "the same bytes"
-            } else {
-                "OTHER BYTES"
-            };
-            writeln!(
-                out,
-                "{}; written again, {again}",
-                Shown(opened.kind(), &fields)
-            )?;
-            Ok(true)
+            let shown = Shown(opened.kind(), &fields);
+            let again = written_again(&fields, message);
+            writeln!(out, "{shown}; written again, {again}")
         }
     }
 }
@@ -99,25 +114,20 @@ fn run<R: Read, W: Write + Drop>(
     out: &mut BufWriter<W>,
 ) -> anyhow::Result<()> {
     let mut buffer = [0; LONGEST];
-    let mut opened = 0u64;
-    let mut refused = 0u64;
+    let mut counts = Counts {
+        opened: 0,
+        refused: 0,
+    };
     for number in 1..u64::MAX {
         if !holds_record(reader.buffer()) {
             out.flush()?;
         }
         match read_record(reader, &mut buffer).context("reading the records")? {
             None => break,
-            Some(Err(cut)) => writeln!(out, "{number} {cut}")?,
-            Some(Ok(message)) => {
-                write!(out, "{number} ")?;
-                if show_record(out, message)? {
-                    opened = opened.saturating_add(1);
-                } else {
-                    refused = refused.saturating_add(1);
-                }
-            }
+            Some(record) => show_record(out, number, record, &mut counts)?,
         }
     }
+    let Counts { opened, refused } = counts;
     writeln!(out, "opened {opened}, refused {refused}")?;
     out.flush()?;
     Ok(())

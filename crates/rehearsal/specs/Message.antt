@@ -1,11 +1,23 @@
 -- The messages that a rehearsal says, each by the words after its first.
-use Rattle.std.specs.Prelude.{◌≡◌, ℕ, codes, length, replicate}
+use Rattle.std.specs.Prelude.{◌≡◌, ℕ, List, codes, length, replicate}
 use Rattle.fields.specs.Kind.{kind_number}
 use Rattle.fields.specs.declared.kind.Kind.{Kind}
 use Rattle.fields.specs.declared.kind.Kind.TheVariants.{AuthReq, AuthRevReq, CapReq, CapRevReq, CredReq, CredRevReq, BatchOpen, BatchClose, Inquiry}
 use Rattle.wire.specs.declared.message.Fields.{Fields}
 use Rattle.rehearsal.specs.declared.message.Message.{Message}
 use Rattle.rehearsal.specs.Words.{Words, word, IsUnsigned, IsName, number_of, xid_of}
+
+-- the word that each kind of message begins with
+abbrev pub kind_text : Kind → List ℕ
+kind_text AuthReq = codes "authorise"
+kind_text AuthRevReq = codes "lower"
+kind_text CapReq = codes "capture"
+kind_text CapRevReq = codes "reverse-capture"
+kind_text CredReq = codes "credit"
+kind_text CredRevReq = codes "reverse-credit"
+kind_text BatchOpen = codes "open"
+kind_text BatchClose = codes "close"
+kind_text Inquiry = codes "inquire"
 
 -- a message of the kind with nothing else in it
 abbrev pub message_of : Kind → Message

@@ -5,9 +5,6 @@ use Rattle.std.specs.Int.{w64}
 use Rattle.std.specs.Borrow.{Bor}
 use Rattle.std.specs.Result.{OkIff}
 use Rattle.std.specs.Str.Parse.{IsNumeral, digits_value, without_leading_plus, without_leading_sign, signed_digits_value}
-use Rattle.fields.specs.declared.kind.Kind.{Kind}
-use Rattle.fields.specs.declared.kind.Kind.TheVariants as kinds
-use Rattle.rehearsal.specs.declared.bank.BankWord.TheVariants as bank
 use Rattle.rehearsal.specs.declared.fault.Fault.{Fault}
 use Rattle.rehearsal.specs.declared.statement.Keyword.{Keyword}
 use Rattle.rehearsal.specs.declared.statement.Keyword.TheVariants as begins
@@ -15,9 +12,9 @@ use Rattle.rehearsal.specs.declared.statement.OtherWord.{OtherWord}
 use Rattle.rehearsal.specs.declared.statement.OtherWord.TheVariants as other
 use Rattle.rehearsal.specs.declared.statement.Statement.{Statement}
 use Rattle.rehearsal.specs.declared.statement.Statement.TheVariants as says
-use Rattle.rehearsal.specs.Words.{Words, word, IsUnsigned, number_of}
-use Rattle.rehearsal.specs.Message.{HasOrder, message_in}
-use Rattle.rehearsal.specs.Bank.{HasBank, bank_in}
+use Rattle.rehearsal.specs.Words.{Words, word, Begins, IsUnsigned, number_of}
+use Rattle.rehearsal.specs.Message.{HasOrder, kind_text, message_in}
+use Rattle.rehearsal.specs.Bank.{HasBank, bank_in, bank_text}
 
 -- two hexadecimal digits write a byte
 abbrev pub byte_of : List ℕ → ℕ
@@ -38,37 +35,32 @@ IsAmount text =
 abbrev pub amount_of : List ℕ → Option ℤ
 amount_of text = if bytes_eq text (codes "-") then None else Some (signed_digits_value 10 text)
 
--- the word that each statement begins with
-abbrev pub kind_text : Kind → List ℕ
-kind_text kinds.AuthReq = codes "authorise"
-kind_text kinds.AuthRevReq = codes "lower"
-kind_text kinds.CapReq = codes "capture"
-kind_text kinds.CapRevReq = codes "reverse-capture"
-kind_text kinds.CredReq = codes "credit"
-kind_text kinds.CredRevReq = codes "reverse-credit"
-kind_text kinds.BatchOpen = codes "open"
-kind_text kinds.BatchClose = codes "close"
-kind_text kinds.Inquiry = codes "inquire"
+-- the word that each statement begins with that is neither about the bank nor a message
+abbrev pub other_text : OtherWord → List ℕ
+other_text other.Course = codes "course"
+other_text other.Request = codes "request"
+other_text other.Case = codes "case"
+other_text other.Fresh = codes "fresh"
+other_text other.Repeat = codes "repeat"
+other_text other.Bytes = codes "bytes"
+other_text other.Expect = codes "expect"
 
+-- the word that each statement begins with
 abbrev pub keyword_text : Keyword → List ℕ
-keyword_text (begins.Bank bank.Account) = codes "account"
-keyword_text (begins.Bank bank.Rows) = codes "rows"
-keyword_text (begins.Bank bank.Voucher) = codes "voucher"
-keyword_text (begins.Bank bank.Split) = codes "split"
-keyword_text (begins.Bank bank.Line) = codes "line"
+keyword_text (begins.Bank begin) = bank_text begin
 keyword_text (begins.Send kind) = kind_text kind
-keyword_text (begins.Other other.Course) = codes "course"
-keyword_text (begins.Other other.Request) = codes "request"
-keyword_text (begins.Other other.Case) = codes "case"
-keyword_text (begins.Other other.Fresh) = codes "fresh"
-keyword_text (begins.Other other.Repeat) = codes "repeat"
-keyword_text (begins.Other other.Bytes) = codes "bytes"
-keyword_text (begins.Other other.Expect) = codes "expect"
+keyword_text (begins.Other begin) = other_text begin
 
 -- a statement begins with the text, or none does
 abbrev pub IsKeyword : List ℕ → Option Keyword → Type 0
-IsKeyword text None = (keyword : Keyword) → keyword_text keyword ≢ text
-IsKeyword text (Some keyword) = keyword_text keyword ≡ text
+IsKeyword = Begins keyword_text
+
+-- a code and an amount
+abbrev pub IsExpected : Words → Type 0
+IsExpected rest = (length rest ≡ 2) × IsUnsigned 8 (word rest 0) × IsAmount (word rest 1)
+
+abbrev pub expected_in : Words → Statement
+expected_in rest = says.Expect (number_of (word rest 0)) (amount_of (word rest 1))
 
 -- which words go on with a statement that is neither about the bank nor a message
 abbrev pub HasRest : OtherWord → Words → Type 0
@@ -78,7 +70,7 @@ HasRest other.Case rest = ⊤
 HasRest other.Fresh rest = length rest ≡ 0
 HasRest other.Repeat rest = (length rest ≡ 1) × IsUnsigned 64 (word rest 0)
 HasRest other.Bytes rest = All (λ byte. IsByte byte.now) rest
-HasRest other.Expect rest = (length rest ≡ 2) × IsUnsigned 8 (word rest 0) × IsAmount (word rest 1)
+HasRest other.Expect rest = IsExpected rest
 
 -- the statement that they make
 abbrev pub rest_in : OtherWord → Bor Words → Statement
@@ -88,7 +80,7 @@ rest_in other.Case rest = says.Case rest
 rest_in other.Fresh rest = says.Fresh
 rest_in other.Repeat rest = says.Repeat (number_of (word rest.now 0))
 rest_in other.Bytes rest = says.Bytes rest
-rest_in other.Expect rest = says.Expect (number_of (word rest.now 0)) (amount_of (word rest.now 1))
+rest_in other.Expect rest = expected_in rest.now
 
 -- what a statement that begins so is read from, and as
 abbrev pub Reads : Keyword → Bor Words → Result Statement Fault → Type 0

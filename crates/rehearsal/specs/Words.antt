@@ -1,5 +1,5 @@
 -- The words of a line, and the numbers and names that they write.
-use Rattle.std.specs.Prelude.{ℕ, ◌-◌, ◌^◌, ◌<◌, ◌≤◌, ◌==◌, List, [], ◌++◌, length, replicate, slice_index_or}
+use Rattle.std.specs.Prelude.{◌≡◌, ◌≢◌, ℕ, ◌-◌, ◌^◌, ◌<◌, ◌≤◌, ◌==◌, List, [], ◌++◌, Option, Some, None, length, replicate, slice_index_or}
 use Rattle.std.specs.Borrow.{Bor}
 use Rattle.std.specs.List.{before_first}
 use Rattle.std.specs.Str.Parse.{IsNumeral, digits_value, without_leading_plus}
@@ -15,6 +15,11 @@ Words = List (Bor (List ℕ))
 -- the text of a word, counted from 0; no text past the last
 abbrev pub word : Words → ℕ → List ℕ
 word words place = (slice_index_or words place (record { ref_ptr = (0, 0); now = [] })).now
+
+-- what the text begins, if anything, where each has the word that `text_of` gives it
+abbrev pub Begins : {W : Type 0} → (W → List ℕ) → List ℕ → Option W → Type 0
+Begins {W} text_of text None = (begun : W) → text_of begun ≢ text
+Begins text_of text (Some begun) = text_of begun ≡ text
 
 -- decimal digits, which a `+` may lead
 abbrev pub IsNumber : List ℕ → Type 0

@@ -4,7 +4,7 @@ use std::fmt;
 use std::num::ParseIntError;
 
 /// Why a line is no statement.
-#[derive(Debug, Drop, PartialEq, Eq)]
+#[derive(Debug, Drop)]
 pub enum Fault {
     /// Its first word begins no statement.
     Unknown,
@@ -30,10 +30,10 @@ impl From<ParseIntError> for Fault {
 impl fmt::Display for Fault {
     fn fmt<W: fmt::Write>(&self, f: &mut fmt::Formatter<W>) -> fmt::Result {
         match self {
-            Fault::Unknown => write!(f, "no statement begins with this word"),
-            Fault::Form => write!(f, "the words after the first are not this statement's"),
+            Fault::Unknown => f.write_str("no statement begins with this word"),
+            Fault::Form => f.write_str("the words after the first are not this statement's"),
             Fault::Number(error) => write!(f, "a number cannot be read: {error}"),
-            Fault::Name => write!(f, "the name of a purchase has at most 20 bytes"),
+            Fault::Name => f.write_str("the name of a purchase has at most 20 bytes"),
         }
     }
 }

@@ -8,7 +8,7 @@ use std::io::{BufRead, BufReader, Read};
 const LONGEST_LINE: usize = 4_096;
 
 // Reads to the end of a line, or of the longest line that there is.
-fn read_limited<R: Read>(reader: &mut BufReader<R>, line: &mut Vec<u8>) -> io::Result<usize> {
+fn read_limited<B: BufRead>(reader: &mut B, line: &mut Vec<u8>) -> io::Result<usize> {
     reader.take(LONGEST_LINE as u64).read_until(b'\n', line)
 }
 

@@ -6,7 +6,7 @@ use std::error::Error;
 use std::fmt;
 
 /// Why a line is not carried out. The rehearsal goes on after it.
-#[derive(Debug, Drop, PartialEq, Eq)]
+#[derive(Debug, Drop)]
 pub enum Obstacle {
     /// Its bytes are no text.
     NotText,
@@ -40,27 +40,21 @@ impl<T: Drop> From<AllocFailed<T>> for Obstacle {
 impl fmt::Display for Obstacle {
     fn fmt<W: fmt::Write>(&self, f: &mut fmt::Formatter<W>) -> fmt::Result {
         match self {
-            Obstacle::NotText => write!(f, "not read: its bytes are no text"),
+            Obstacle::NotText => f.write_str("not read: its bytes are no text"),
             Obstacle::NoStatement(fault) => write!(f, "not read: {fault}"),
             Obstacle::NotWritten(refusal) => {
                 let code = u8::from(*refusal);
                 write!(f, "not sent: the writer refuses it, {code} {refusal}")
             }
-            Obstacle::BankStands => {
-                write!(
-                    f,
-                    "not done: the bank is described before the first message, or after `fresh`"
-                )
-            }
-            Obstacle::NothingSent => write!(f, "not done: no message was sent before it"),
-            Obstacle::NotRemembered => {
-                write!(
-                    f,
-                    "not sent: no message of this request number is among the last 256"
-                )
-            }
-            Obstacle::TooLong => write!(f, "not sent: a record holds at most 255 bytes"),
-            Obstacle::OutOfMemory => write!(f, "not sent: there is no memory to keep it"),
+            Obstacle::BankStands => f.write_str(
+                "not done: the bank is described before the first message, or after `fresh`",
+            ),
+            Obstacle::NothingSent => f.write_str("not done: no message was sent before it"),
+            Obstacle::NotRemembered => f.write_str(
+                "not sent: no message of this request number is among the last 256",
+            ),
+            Obstacle::TooLong => f.write_str("not sent: a record holds at most 255 bytes"),
+            Obstacle::OutOfMemory => f.write_str("not sent: there is no memory to keep it"),
         }
     }
 }

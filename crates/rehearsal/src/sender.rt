@@ -37,13 +37,13 @@ fn write_into<'b>(fields: &Fields, buffer: &'b mut [u8; LONGEST]) -> Result<&'b 
 
 // Lays the bytes that the words write into the front of the buffer.
 fn lay_bytes<'b>(words: &[&str], buffer: &'b mut [u8; LONGEST]) -> Result<&'b [u8], Obstacle> {
-    if words.len() > LONGEST {
+    let Some(room) = buffer.get_mut(..words.len()) else {
         return Err(Obstacle::TooLong);
-    }
-    for (place, word) in buffer.iter_mut().zip(words) {
+    };
+    for (place, word) in room.iter_mut().zip(words) {
         *place = byte_of(word).unwrap_or(0);
     }
-    Ok(&buffer[..words.len()])
+    Ok(room)
 }
 
 // The last of these messages that has the course and the request number.
@@ -107,23 +107,24 @@ impl Sender {
         statement: &Statement<'_>,
         buffer: &'b mut [u8; LONGEST],
     ) -> Result<Option<&'b [u8]>, Obstacle> {
-        match *statement {
-            Statement::Send(message) => Ok(Some(self.send(&message, buffer)?)),
-            Statement::Repeat(request) => match self.sent_under(request) {
-                Some(fields) => Ok(Some(write_into(&fields, buffer)?)),
-                None => Err(Obstacle::NotRemembered),
+        let bytes = match statement {
+            Statement::Send(message) => self.send(message, buffer)?,
+            Statement::Repeat(request) => match self.sent_under(*request) {
+                Some(fields) => write_into(&fields, buffer)?,
+                None => return Err(Obstacle::NotRemembered),
             },
-            Statement::Bytes(words) => Ok(Some(lay_bytes(words, buffer)?)),
+            Statement::Bytes(words) => lay_bytes(words, buffer)?,
             Statement::Course(course) => {
-                self.course = course;
-                Ok(None)
+                self.course = *course;
+                return Ok(None);
             }
             Statement::Request(request) => {
-                self.request = request;
-                Ok(None)
+                self.request = *request;
+                return Ok(None);
             }
             Statement::Bank(_) | Statement::Case(_) | Statement::Fresh | Statement::Expect { .. } =>
-                { Ok(None) }
-        }
+                { return Ok(None) }
+        };
+        Ok(Some(bytes))
     }
 }

@@ -1,16 +1,18 @@
 //! What a line of a rehearsal says.
-ghost use Rattle.std.specs.Prelude.{◌≡◌, All, MatchBool};
+ghost use Rattle.std.specs.Prelude.{◌≡◌, All, MatchBool, length};
 ghost use Rattle.std.specs.Option.{SomeIff};
 ghost use Rattle.std.specs.Result.{OkIff};
-ghost use Rattle.rehearsal.specs.Statement.{HasRest, IsAmount, IsByte, IsKeyword, ReadsWords, amount_of, byte_of, keyword_text, rest_in};
+ghost use Rattle.rehearsal.specs.Statement.{HasRest, IsAmount, IsByte, IsExpected, IsKeyword, ReadsWords, amount_of, byte_of, expected_in, other_text, rest_in};
+ghost use Rattle.rehearsal.specs.Words.{Begins, IsUnsigned, number_of, word};
 
 use crate::bank::{BankLine, BankWord};
 use crate::fault::Fault;
-use crate::message::Message;
+use crate::message::{Message, kind_of};
+use crate::words::only;
 use fields::kind::Kind;
 
 /// What a line begins with.
-#[derive(Clone, Copy, PartialEq, Eq, Debug)]
+#[derive(Clone, Copy)]
 pub enum Keyword {
     Bank(BankWord),
     Send(Kind),
@@ -18,7 +20,7 @@ pub enum Keyword {
 }
 
 /// What a line begins with that is neither about the bank nor a message.
-#[derive(Clone, Copy, PartialEq, Eq, Debug)]
+#[derive(Clone, Copy)]
 pub enum OtherWord {
     Course,
     Request,
@@ -30,7 +32,7 @@ pub enum OtherWord {
 }
 
 /// What a line says.
-#[derive(Clone, Copy, PartialEq, Eq, Debug)]
+#[derive(Clone, Copy)]
 pub enum Statement<'w> {
     /// A line about the bank.
     Bank(BankLine<'w>),
@@ -63,6 +65,14 @@ pub fn byte_of(word: &str) -> Option<u8>
     u8::from_str_radix(word, 16).ok()
 }
 
+// The number that stands alone.
+fn only_number(words: &[&str]) -> Result<u64, Fault>
+    ensures { OkIff result ((length words.now ≡ 1) × IsUnsigned 64 (word words.now 0))
+        (number_of (word words.now 0)) }
+{
+    Ok(only(words)?.parse()?)
+}
+
 // Whether each word writes a byte.
 fn are_bytes(words: &[&str]) -> bool
     ensures { MatchBool result (All (λ word. IsByte word.now) words.now)
@@ -81,54 +91,64 @@ fn amount_of(word: &str) -> Result<Option<i64>, Fault>
     Ok(Some(word.parse()?))
 }
 
-impl Keyword {
-    /// The statement that begins with the word.
-    fn of(word: &str) -> Option<Keyword>
-        ensures { IsKeyword word.now result }
+impl OtherWord {
+    fn of(word: &str) -> Option<OtherWord>
+        ensures { Begins other_text word.now result }
     {
         Some(match word {
-            "account" => Keyword::Bank(BankWord::Account),
-            "rows" => Keyword::Bank(BankWord::Rows),
-            "voucher" => Keyword::Bank(BankWord::Voucher),
-            "split" => Keyword::Bank(BankWord::Split),
-            "line" => Keyword::Bank(BankWord::Line),
-            "authorise" => Keyword::Send(Kind::AuthReq),
-            "lower" => Keyword::Send(Kind::AuthRevReq),
-            "capture" => Keyword::Send(Kind::CapReq),
-            "reverse-capture" => Keyword::Send(Kind::CapRevReq),
-            "credit" => Keyword::Send(Kind::CredReq),
-            "reverse-credit" => Keyword::Send(Kind::CredRevReq),
-            "open" => Keyword::Send(Kind::BatchOpen),
-            "close" => Keyword::Send(Kind::BatchClose),
-            "inquire" => Keyword::Send(Kind::Inquiry),
-            "course" => Keyword::Other(OtherWord::Course),
-            "request" => Keyword::Other(OtherWord::Request),
-            "case" => Keyword::Other(OtherWord::Case),
-            "fresh" => Keyword::Other(OtherWord::Fresh),
-            "repeat" => Keyword::Other(OtherWord::Repeat),
-            "bytes" => Keyword::Other(OtherWord::Bytes),
-            "expect" => Keyword::Other(OtherWord::Expect),
+            "course" => OtherWord::Course,
+            "request" => OtherWord::Request,
+            "case" => OtherWord::Case,
+            "fresh" => OtherWord::Fresh,
+            "repeat" => OtherWord::Repeat,
+            "bytes" => OtherWord::Bytes,
+            "expect" => OtherWord::Expect,
             _ => return None,
         })
     }
 }
 
+impl Keyword {
+    /// The statement that begins with the word.
+    fn of(word: &str) -> Option<Keyword>
+        ensures { IsKeyword word.now result }
+    {
+        if let Some(kind) = kind_of(word) {
+            Some(Keyword::Send(kind))
+        } else if let Some(begun) = OtherWord::of(word) {
+            Some(Keyword::Other(begun))
+        } else {
+            Some(Keyword::Bank(BankWord::of(word)?))
+        }
+    }
+}
+
 impl<'w> Statement<'w> {
+    // CODE PENCE, or CODE -
+    fn read_expected(rest: &[&str]) -> Result<Statement<'w>, Fault>
+        ensures { OkIff result (IsExpected rest.now) (expected_in rest.now) }
+    {
+        let [code, amount] = rest else {
+            return Err(Fault::Form);
+        };
+        Ok(Statement::Expect {
+            code: code.parse()?,
+            amount: amount_of(amount)?,
+        })
+    }
+
     fn read_other(word: OtherWord, rest: &'w [&'w str]) -> Result<Statement<'w>, Fault>
         ensures { OkIff result (HasRest word rest.now) (rest_in word rest.entry) }
     {
-        match (word, rest) {
-            (OtherWord::Course, [number]) => Ok(Statement::Course(number.parse()?)),
-            (OtherWord::Request, [number]) => Ok(Statement::Request(number.parse()?)),
-            (OtherWord::Case, title) => Ok(Statement::Case(title)),
-            (OtherWord::Fresh, []) => Ok(Statement::Fresh),
-            (OtherWord::Repeat, [number]) => Ok(Statement::Repeat(number.parse()?)),
-            (OtherWord::Bytes, bytes) if are_bytes(bytes) => Ok(Statement::Bytes(bytes)),
-            (OtherWord::Expect, [code, amount]) => Ok(Statement::Expect {
-                code: code.parse()?,
-                amount: amount_of(amount)?,
-            }),
-            _ => Err(Fault::Form),
+        match word {
+            OtherWord::Course => Ok(Statement::Course(only(rest)?.parse()?)),
+            OtherWord::Request => Ok(Statement::Request(only_number(rest)?)),
+            OtherWord::Case => Ok(Statement::Case(rest)),
+            OtherWord::Fresh if rest.is_empty() => Ok(Statement::Fresh),
+            OtherWord::Repeat => Ok(Statement::Repeat(only_number(rest)?)),
+            OtherWord::Bytes if are_bytes(rest) => Ok(Statement::Bytes(rest)),
+            OtherWord::Expect => Statement::read_expected(rest),
+            OtherWord::Fresh | OtherWord::Bytes => Err(Fault::Form),
         }
     }
 
@@ -136,11 +156,14 @@ impl<'w> Statement<'w> {
     pub fn read(words: &'w [&'w str]) -> Result<Statement<'w>, Fault>
         ensures { ReadsWords words.now result }
     {
-        let (first, rest) = words.split_first().ok_or(Fault::Unknown)?;
-        match Keyword::of(first).ok_or(Fault::Unknown)? {
-            Keyword::Bank(word) => Ok(Statement::Bank(BankLine::read(word, rest)?)),
-            Keyword::Send(kind) => Ok(Statement::Send(Message::read(kind, rest)?)),
-            Keyword::Other(word) => Statement::read_other(word, rest),
+        let Some((first, rest)) = words.split_first() else {
+            return Err(Fault::Unknown);
+        };
+        match Keyword::of(first) {
+            Some(Keyword::Bank(word)) => Ok(Statement::Bank(BankLine::read(word, rest)?)),
+            Some(Keyword::Send(kind)) => Ok(Statement::Send(Message::read(kind, rest)?)),
+            Some(Keyword::Other(word)) => Statement::read_other(word, rest),
+            None => Err(Fault::Unknown),
         }
     }
 }

@@ -1,17 +1,18 @@
 //! The words of a line: those before a comment, as they stand between white space.
-ghost use Rattle.std.specs.Prelude.{◌≡◌, IfOk, IsOk, IsErr, IfErr};
+ghost use Rattle.std.specs.Prelude.{◌≡◌, ◌≢◌, IfOk, IsOk, IsErr, IfErr, MatchResult, length};
 ghost use Rattle.std.specs.Result.{OkIff};
-ghost use Rattle.rehearsal.specs.Words.{IsName, IsUnsigned, number_of, said, xid_of};
+ghost use Rattle.rehearsal.specs.Words.{IsName, IsUnsigned, number_of, said, word, xid_of};
 ghost use Rattle.rehearsal.specs.WordsOf.{IsWordsOf};
 
 use crate::fault::Fault;
+use smallvec::SmallVec;
 use std::alloc::{AllocError, Global};
 use wire::message::Xid;
 
 const NAME: usize = 20;
 
-// Most statements have at most so many words; a line with more of them takes memory again.
-const FEW_WORDS: usize = 8;
+/// How many words of a line take no memory. Most statements have no more.
+pub const FEW_WORDS: usize = 8;
 
 /// The line without its comment, which `#` begins.
 pub fn statement_part(line: &str) -> &str
@@ -24,12 +25,24 @@ pub fn statement_part(line: &str) -> &str
 }
 
 /// The words of a line without its comment.
-pub fn words_of(alloc: Global, line: &str) -> Result<Vec<&str>, AllocError>
+pub fn words_of(alloc: Global, line: &str) -> Result<SmallVec<&str, FEW_WORDS>, AllocError>
     ensures { IfOk result (λ words. IsWordsOf (said line.now) words.items) }
 {
-    let mut words = Vec::with_capacity(alloc, FEW_WORDS)?;
+    let mut words = SmallVec::new(alloc);
     words.extend(statement_part(line).split_whitespace())?;
     Ok(words)
+}
+
+/// The word that stands alone.
+pub(crate) fn only<'w>(words: &[&'w str]) -> Result<&'w str, Fault>
+    ensures { MatchResult result
+        (λ one. (length words.now ≡ 1) × (one.now ≡ word words.now 0))
+        (λ _. length words.now ≢ 1) }
+{
+    match words {
+        [word] => Ok(word),
+        _ => Err(Fault::Form),
+    }
 }
 
 /// An amount in pence.

@@ -5,6 +5,7 @@ use crate::report::{Answered, Found, Numbers};
 use crate::tally::Tally;
 use anyhow::{Context, anyhow};
 use gateway::Gateway;
+use host::Host;
 use hosts::account_book::AccountBook;
 use hosts::voucher_drawer::VoucherDrawer;
 use layers::bad_line::BadLine;
@@ -15,20 +16,29 @@ use rehearsal::obstacle::Obstacle;
 use rehearsal::sender::{LONGEST, Sender};
 use rehearsal::statement::Statement;
 use rehearsal::words::words_of;
-use std::alloc::Global;
+use std::alloc::{AllocError, Global};
 use std::io;
 use std::io::{BufWriter, Read, Write};
+use wire::opened::Opened;
 use wire::{STRIP, open};
 
 // What a line leads to.
-#[derive(Debug, Drop, PartialEq, Eq)]
+#[derive(Clone, Copy)]
 enum Step {
+    // the next line
     Done,
-    // a message, before which the bank is made
-    Message,
-    // a new case
-    Fresh,
-    Obstacle(Obstacle),
+    // the end of the stage
+    Over,
+}
+
+// What carries out the statements of a case: the description of its bank, and then its messages.
+trait Stage {
+    // Carries a statement out, shows at the desk what comes of it, and says what it leads to.
+    fn carry_out<W: Write + Drop>(
+        &mut self,
+        desk: &mut Desk<'_, W>,
+        statement: &Statement<'_>,
+    ) -> anyhow::Result<Step>;
 }
 
 fn show_title<W: Write>(out: &mut W, title: &[&str]) -> io::Result<()> {
@@ -66,18 +76,21 @@ impl<W: Write + Drop> Desk<'_, W> {
         Ok(true)
     }
 
-    // Tells why the line is not carried out; there is then no answer to be expected.
-    fn tell(&mut self, obstacle: &Obstacle) -> io::Result<()> {
+    // Tells why the line is not carried out, and is done with it; there is then no answer to be
+    // expected.
+    fn tell(&mut self, obstacle: &Obstacle) -> io::Result<Step> {
         self.tally.faults = self.tally.faults.saturating_add(1);
         self.answered = None;
-        writeln!(self.out, "line {}: {obstacle}", self.number)
+        writeln!(self.out, "line {}: {obstacle}", self.number)?;
+        Ok(Step::Done)
     }
 
-    // Counts a message's answer, against which the next expectation is held.
-    fn count(&mut self, answered: &Answered) {
+    // Counts a message's answer, to which the next expectation is held, and adds it to the line.
+    fn answer(&mut self, answered: &Answered) -> Result<(), AllocError> {
         let numbers = answered.numbers();
         self.answered = Some(numbers);
         self.tally.count_answer(numbers.0);
+        answered.show(&mut self.line)
     }
 
     // Counts an expectation, and tells one that is missed.
@@ -100,10 +113,10 @@ impl<W: Write + Drop> Desk<'_, W> {
             Statement::Case(title) => show_title(self.out, title)?,
             Statement::Expect { code, amount } => match self.answered {
                 Some(answered) => self.compare(Numbers(code, amount), answered)?,
-                None => return Ok(Step::Obstacle(Obstacle::NothingSent)),
+                None => return self.tell(&Obstacle::NothingSent),
             },
-            Statement::Fresh => return Ok(Step::Fresh),
-            Statement::Bank(_) => return Ok(Step::Obstacle(Obstacle::BankStands)),
+            Statement::Fresh => return Ok(Step::Over),
+            Statement::Bank(_) => return self.tell(&Obstacle::BankStands),
             Statement::Course(_)
             | Statement::Request(_)
             | Statement::Send(_)
@@ -113,143 +126,187 @@ impl<W: Write + Drop> Desk<'_, W> {
         Ok(Step::Done)
     }
 
-    // A line before the first message.
-    fn describe(
+    // Has the gateway perform a message, and adds its answer to the line, and what the bank and the
+    // books have of it.
+    fn perform<H: Shown>(
+        &mut self,
+        gateway: &mut Gateway<H>,
+        opened: Opened,
+    ) -> Result<(), AllocError> {
+        let (kind, fields) = (opened.kind(), opened.fields());
+        let answered = Answered::Full(gateway.perform(opened));
+        self.line.add(kind.name())?;
+        self.line.add(": ")?;
+        self.answer(&answered)?;
+        Found::of(gateway, kind, &fields).show(&mut self.line)
+    }
+
+    // Opens a message and has the gateway perform it, and shows what comes of it.
+    fn handle<H: Shown>(&mut self, gateway: &mut Gateway<H>, message: &[u8]) -> anyhow::Result<()> {
+        self.line.begin(self.number)?;
+        match open(message, &mut [0; STRIP]) {
+            Ok(opened) => self.perform(gateway, opened)?,
+            Err(refusal) => self.answer(&Answered::Short(refusal))?,
+        }
+        self.out.write_all(self.line.end()?)?;
+        Ok(())
+    }
+
+    // Has the stage carry out the statement that a line makes.
+    fn carry_out_line<S: Stage>(
         &mut self,
         alloc: Global,
         line: &str,
-        setup: &mut Setup,
-        sender: &mut Sender,
+        stage: &mut S,
     ) -> anyhow::Result<Step> {
         let words = words_of(alloc, line)?;
         if words.is_empty() {
             return Ok(Step::Done);
         }
         match Statement::read(&words) {
-            Ok(Statement::Bank(line)) => {
-                setup.add(&line)?;
-                Ok(Step::Done)
-            }
-            Ok(Statement::Send(_) | Statement::Repeat(_) | Statement::Bytes(_)) => Ok(
-                Step::Message,
-            ),
-            Ok(statement) => {
-                let _ = sender.message(&statement, &mut [0; LONGEST]);
-                Ok(self.note(&statement)?)
-            }
-            Err(fault) => Ok(Step::Obstacle(Obstacle::NoStatement(fault))),
-        }
-    }
-
-    // Opens a message and has the gateway perform it, and shows its answer, and what the bank and
-    // the books have of it.
-    fn handle<H: Shown>(&mut self, gateway: &mut Gateway<H>, message: &[u8]) -> anyhow::Result<()> {
-        self.line.begin(self.number)?;
-        match open(message, &mut [0; STRIP]) {
-            Ok(opened) => {
-                let (kind, fields) = (opened.kind(), opened.fields());
-                let answered = Answered::Full(gateway.perform(opened));
-                self.count(&answered);
-                self.line.add(kind.name())?;
-                self.line.add(": ")?;
-                answered.show(&mut self.line)?;
-                Found::of(gateway, kind, &fields).show(&mut self.line)?;
-            }
-            Err(refusal) => {
-                let answered = Answered::Short(refusal);
-                self.count(&answered);
-                answered.show(&mut self.line)?;
-            }
-        }
-        self.out.write_all(self.line.end()?)?;
-        Ok(())
-    }
-
-    // A line once the bank stands.
-    fn carry_out<H: Shown>(
-        &mut self,
-        alloc: Global,
-        line: &str,
-        gateway: &mut Gateway<H>,
-        sender: &mut Sender,
-    ) -> anyhow::Result<Step> {
-        let words = words_of(alloc, line)?;
-        if words.is_empty() {
-            return Ok(Step::Done);
-        }
-        let statement = match Statement::read(&words) {
-            Ok(statement) => statement,
-            Err(fault) => return Ok(Step::Obstacle(Obstacle::NoStatement(fault))),
-        };
-        match sender.message(&statement, &mut [0; LONGEST]) {
-            Ok(Some(message)) => {
-                self.handle(gateway, message)?;
-                Ok(Step::Done)
-            }
-            Ok(None) => Ok(self.note(&statement)?),
-            Err(obstacle) => Ok(Step::Obstacle(obstacle)),
+            Ok(statement) => stage.carry_out(self, &statement),
+            Err(fault) => Ok(self.tell(&Obstacle::NoStatement(fault))?),
         }
     }
 }
 
-// Goes through the lines before the first message, and says whether there is one.
-fn describe_bank<R: Read, W: Write + Drop>(
+// The stage before the first message, in which the bank is described.
+#[derive(Drop)]
+struct Describing {
+    alloc: Global,
+    setup: Setup,
+    sender: Sender,
+}
+
+impl Describing {
+    fn new(alloc: Global) -> Describing {
+        Describing {
+            alloc,
+            setup: Setup::new(alloc),
+            sender: Sender::new(alloc),
+        }
+    }
+}
+
+impl Stage for Describing {
+    fn carry_out<W: Write + Drop>(
+        &mut self,
+        desk: &mut Desk<'_, W>,
+        statement: &Statement<'_>,
+    ) -> anyhow::Result<Step> {
+        match *statement {
+            Statement::Bank(line) => self.setup.add(&line)?,
+            Statement::Send(_) | Statement::Repeat(_) | Statement::Bytes(_) => {
+                return Ok(Step::Over);
+            }
+            Statement::Fresh => *self = Describing::new(self.alloc),
+            Statement::Course(_)
+            | Statement::Request(_)
+            | Statement::Case(_)
+            | Statement::Expect { .. } => {
+                let _ = self.sender.message(statement, &mut [0; LONGEST]);
+                return Ok(desk.note(statement)?);
+            }
+        }
+        Ok(Step::Done)
+    }
+}
+
+// The stage of the messages, once the bank stands.
+#[derive(Drop)]
+struct Sending<'s, H> {
+    gateway: Gateway<H>,
+    sender: &'s mut Sender,
+}
+
+impl<H: Shown> Stage for Sending<'_, H> {
+    fn carry_out<W: Write + Drop>(
+        &mut self,
+        desk: &mut Desk<'_, W>,
+        statement: &Statement<'_>,
+    ) -> anyhow::Result<Step> {
+        match self.sender.message(statement, &mut [0; LONGEST]) {
+            Ok(Some(message)) => {
+                desk.handle(&mut self.gateway, message)?;
+                Ok(Step::Done)
+            }
+            Ok(None) => Ok(desk.note(statement)?),
+            Err(obstacle) => Ok(desk.tell(&obstacle)?),
+        }
+    }
+}
+
+// Goes through the lines of a stage, and says whether one ends it.
+fn go_through<R: Read, W: Write + Drop, S: Stage>(
     alloc: Global,
     lines: &mut Lines<R>,
     desk: &mut Desk<'_, W>,
-    setup: &mut Setup,
-    sender: &mut Sender,
+    stage: &mut S,
 ) -> anyhow::Result<bool> {
     for _ in 0..u64::MAX {
         if !desk.advance(lines)? {
             return Ok(false);
         }
         let step = match lines.text() {
-            Some(line) => desk.describe(alloc, line, setup, sender)?,
-            None => Step::Obstacle(Obstacle::NotText),
+            Some(line) => desk.carry_out_line(alloc, line, stage)?,
+            None => desk.tell(&Obstacle::NotText)?,
         };
         match step {
             Step::Done => {}
-            Step::Message => {
-                lines.put_back();
-                return Ok(true);
-            }
-            Step::Fresh => {
-                *setup = Setup::new(alloc);
-                *sender = Sender::new(alloc);
-            }
-            Step::Obstacle(obstacle) => desk.tell(&obstacle)?,
+            Step::Over => return Ok(true),
         }
     }
     Ok(false)
 }
 
 // Goes through the messages over a bank, and says whether another case follows.
-fn go_through<R: Read, W: Write + Drop, H: Shown + Drop>(
+fn send_over<R: Read, W: Write + Drop, H: Shown + Drop>(
     alloc: Global,
     lines: &mut Lines<R>,
     desk: &mut Desk<'_, W>,
     sender: &mut Sender,
     bank: H,
 ) -> anyhow::Result<bool> {
-    let Ok(mut gateway) = Gateway::new(alloc, bank) else {
+    let Ok(gateway) = Gateway::new(alloc, bank) else {
         return Err(anyhow!("no memory for the books"));
     };
-    for _ in 0..u64::MAX {
-        if !desk.advance(lines)? {
-            return Ok(false);
+    go_through(alloc, lines, desk, &mut Sending { gateway, sender })
+}
+
+// The line to a bank of two hosts, of which the left one has the cards between the bounds.
+fn line_to<L: Host, R: Host>(
+    left: L,
+    right: R,
+    low: u64,
+    high: u64,
+    marks: &[u8],
+) -> BadLine<RangeSplit<L, R>> {
+    BadLine::new(RangeSplit::new(left, right, low, high), marks)
+}
+
+// Makes the bank that is described, goes through the messages over it, and says whether another
+// case follows.
+fn send_all<R: Read, W: Write + Drop>(
+    alloc: Global,
+    lines: &mut Lines<R>,
+    desk: &mut Desk<'_, W>,
+    setup: &mut Setup,
+    sender: &mut Sender,
+) -> anyhow::Result<bool> {
+    let mut holds = setup.holds(alloc)?;
+    let book = AccountBook::new(&setup.accounts, &mut holds);
+    let drawer = VoucherDrawer::new(&mut setup.vouchers);
+    let (low, high) = (setup.low, setup.high);
+    match setup.side {
+        Side::Book => {
+            let bank = line_to(book, drawer, low, high, &setup.marks);
+            send_over(alloc, lines, desk, sender, bank)
         }
-        let step = match lines.text() {
-            Some(line) => desk.carry_out(alloc, line, &mut gateway, sender)?,
-            None => Step::Obstacle(Obstacle::NotText),
-        };
-        match step {
-            Step::Done | Step::Message => {}
-            Step::Fresh => return Ok(true),
-            Step::Obstacle(obstacle) => desk.tell(&obstacle)?,
+        Side::Drawer => {
+            let bank = line_to(drawer, book, low, high, &setup.marks);
+            send_over(alloc, lines, desk, sender, bank)
         }
     }
-    Ok(false)
 }
 
 /// Goes through one case, and says whether another follows.
@@ -266,25 +323,17 @@ pub fn rehearse<R: Read, W: Write + Drop>(
         answered: None,
         line: Line::new(alloc),
     };
-    let mut setup = Setup::new(alloc);
-    let mut sender = Sender::new(alloc);
-    if !describe_bank(alloc, lines, &mut desk, &mut setup, &mut sender)? {
+    let mut described = Describing::new(alloc);
+    if !go_through(alloc, lines, &mut desk, &mut described)? {
         return Ok(false);
     }
-    let mut holds = setup.holds(alloc)?;
-    let book = AccountBook::new(&setup.accounts, &mut holds);
-    let drawer = VoucherDrawer::new(&mut setup.vouchers);
-    let (low, high) = (setup.low, setup.high);
-    match setup.side {
-        Side::Book => {
-            let split = RangeSplit::new(book, drawer, low, high);
-            let line = BadLine::new(split, &setup.marks);
-            go_through(alloc, lines, &mut desk, &mut sender, line)
-        }
-        Side::Drawer => {
-            let split = RangeSplit::new(drawer, book, low, high);
-            let line = BadLine::new(split, &setup.marks);
-            go_through(alloc, lines, &mut desk, &mut sender, line)
-        }
-    }
+    // the message that ends the description
+    lines.put_back();
+    send_all(
+        alloc,
+        lines,
+        &mut desk,
+        &mut described.setup,
+        &mut described.sender,
+    )
 }

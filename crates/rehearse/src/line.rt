@@ -1,5 +1,5 @@
 //! A line of what is shown.
-use console::shown::Masked;
+use console::shown::{LAST_FOUR, Masked};
 use itoa::{Buffer, Integer};
 use std::alloc::{AllocError, Global};
 
@@ -20,8 +20,7 @@ impl Line {
     /// Begins a line about the rehearsal's line of this number.
     pub fn begin(&mut self, number: u64) -> Result<(), AllocError> {
         self.text.clear();
-        self.add("line ")?;
-        self.add_number(number)?;
+        self.add_labelled("line ", number)?;
         self.add(": ")
     }
 
@@ -36,9 +35,21 @@ impl Line {
         self.text.push_str(Buffer::new().format(number))
     }
 
-    /// Adds a card, by its last four digits.
+    /// Adds words, and a number after them.
+    #[inline(always)]
+    pub fn add_labelled<I: Integer>(&mut self, words: &str, number: I) -> Result<(), AllocError> {
+        self.add(words)?;
+        self.add_number(number)
+    }
+
+    /// Adds a card, by its last four digits. They are written after a 1, which keeps their leading
+    /// zeros and is left out.
     pub fn add_card(&mut self, number: u64) -> Result<(), AllocError> {
-        write!(self.text, "{}", Masked(number))
+        let masked = Masked(number);
+        self.add(masked.stars())?;
+        let mut buffer = Buffer::new();
+        let digits = buffer.format(LAST_FOUR + masked.last_four());
+        self.add(digits.get(1..).unwrap_or(digits))
     }
 
     /// Ends the line, and gives its bytes.

@@ -5,7 +5,6 @@
 mod bank;
 mod case;
 mod line;
-mod outcome;
 mod report;
 mod tally;
 
@@ -24,6 +23,9 @@ Prints for each message its answer, what the bank holds and what the books show,
 for more. A line that is no statement is told by its number and passed over.
 Ends with status 1 where an answer is not the one that `expect` says, or a line is not carried out.
 ";
+
+// How many bytes are written at once where the output is not waited for.
+const BUFFER: usize = 65_536;
 
 // Goes through the cases of a rehearsal, each over a bank and a gateway of its own.
 fn run<R: Read, W: Write + Drop>(
@@ -47,7 +49,7 @@ fn main(rt: HostRuntime) -> anyhow::Result<ExitCode> {
         return Ok(status);
     }
     let mut lines = Lines::new(rt.alloc(), BufReader::new(rt.alloc(), rt.reader())?);
-    let mut out = BufWriter::new(rt.alloc(), io::writer(&rt))?;
+    let mut out = BufWriter::with_capacity(rt.alloc(), BUFFER, io::writer(&rt))?;
     let tally = run(rt.alloc(), &mut lines, &mut out)?;
     Ok(tally.status())
 }

@@ -2,7 +2,6 @@
 //! show.
 use crate::bank::Shown;
 use crate::line::Line;
-use crate::outcome::words_of;
 use fields::field::Field;
 use fields::kind::Kind;
 use fields::refusal::Refusal;
@@ -17,7 +16,7 @@ use std::fmt;
 use wire::message::Fields;
 
 /// What a message is answered, to be shown in words and number.
-#[derive(Clone, Copy, PartialEq, Eq, Debug)]
+#[derive(Clone, Copy)]
 pub enum Answered {
     /// The message cannot be opened.
     Short(Refusal),
@@ -48,16 +47,15 @@ impl Answered {
             Answered::Full(performed) => {
                 line.add_number(u8::from(performed.outcome))?;
                 line.add(" ")?;
-                line.add(words_of(performed.outcome))?;
-                line.add(", ")?;
-                line.add_number(performed.signed())
+                line.add(performed.outcome.reason())?;
+                line.add_labelled(", ", performed.signed())
             }
         }
     }
 }
 
 /// The code, and the amount of a full answer, as an expectation writes them.
-#[derive(Clone, Copy, PartialEq, Eq, Debug)]
+#[derive(Clone, Copy, PartialEq, Eq)]
 pub struct Numbers(pub u8, pub Option<i64>);
 
 impl fmt::Display for Numbers {
@@ -71,7 +69,7 @@ impl fmt::Display for Numbers {
 }
 
 /// A purchase in the books, and what the bank holds for it.
-#[derive(Clone, Copy, PartialEq, Eq, Debug)]
+#[derive(Clone, Copy)]
 pub struct Standing {
     pub purchase: Purchase,
     pub held: Amount,
@@ -81,34 +79,25 @@ impl Standing {
     fn show(&self, line: &mut Line) -> Result<(), AllocError> {
         line.add("; card ")?;
         line.add_card(self.purchase.card.number)?;
-        line.add(" holds ")?;
-        line.add_number(self.held)?;
-        line.add("; authorised ")?;
-        line.add_number(self.purchase.authorised)?;
-        line.add(", captured ")?;
-        line.add_number(self.purchase.captured)?;
-        line.add(", credited ")?;
-        line.add_number(self.purchase.credited)?;
+        line.add_labelled(" holds ", self.held)?;
+        line.add_labelled("; authorised ", self.purchase.authorised)?;
+        line.add_labelled(", captured ", self.purchase.captured)?;
+        line.add_labelled(", credited ", self.purchase.credited)?;
         match self.purchase.doubt {
-            Some(asked) => {
-                line.add(", in doubt over ")?;
-                line.add_number(asked)
-            }
+            Some(asked) => line.add_labelled(", in doubt over ", asked),
             None => Ok(()),
         }
     }
 }
 
 fn show_batch(batch: &Batch, line: &mut Line) -> Result<(), AllocError> {
-    line.add("; batch ")?;
-    line.add_number(batch.number)?;
+    line.add_labelled("; batch ", batch.number)?;
     line.add(if batch.closed { " closed" } else { " open" })?;
-    line.add(", total ")?;
-    line.add_number(batch.total)
+    line.add_labelled(", total ", batch.total)
 }
 
 /// What the books and the bank show of a message's purchase and of its batch.
-#[derive(Clone, Copy, PartialEq, Eq, Debug)]
+#[derive(Clone, Copy)]
 pub struct Found {
     pub standing: Option<Standing>,
     pub batch: Option<Batch>,
@@ -145,8 +134,9 @@ impl Found {
 
 // The purchase that a message names; its reference is its row number, from 1.
 fn find_purchase<H: Shown>(gateway: &Gateway<H>, fields: &Fields) -> Option<Standing> {
-    let place = search(gateway.purchases(), &fields.xid)?;
-    let purchase = gateway.purchases()[place];
+    let purchases = gateway.purchases();
+    let place = search(purchases, &fields.xid)?;
+    let purchase = purchases[place];
     let pair = Pair {
         card: purchase.card,
         reference: place as u64 + 1,

@@ -6,7 +6,7 @@ use std::process::ExitCode;
 const CODES: usize = 26;
 
 /// The counts of a rehearsal. Each stays at its largest where it would pass it.
-#[derive(Clone, Copy, PartialEq, Eq, Debug)]
+#[derive(Clone, Copy)]
 pub struct Tally {
     /// The lines that were read.
     pub lines: u64,
@@ -56,6 +56,18 @@ impl Tally {
     }
 }
 
+// Writes each code that was answered, and how often.
+fn write_answers<W: fmt::Write>(answers: &[u64; CODES], f: &mut fmt::Formatter<W>) -> fmt::Result {
+    let mut before = ':';
+    for (code, count) in answers.iter().enumerate() {
+        if *count > 0 {
+            write!(f, "{before} {code} ({count})")?;
+            before = ',';
+        }
+    }
+    Ok(())
+}
+
 impl fmt::Display for Tally {
     fn fmt<W: fmt::Write>(&self, f: &mut fmt::Formatter<W>) -> fmt::Result {
         let lines = self.lines;
@@ -64,13 +76,7 @@ impl fmt::Display for Tally {
             f,
             "{lines} lines, {faults} not carried out; answers by code"
         )?;
-        let mut before = ':';
-        for (code, count) in self.answers.iter().enumerate() {
-            if *count > 0 {
-                write!(f, "{before} {code} ({count})")?;
-                before = ',';
-            }
-        }
+        write_answers(&self.answers, f)?;
         let met = self.met;
         let missed = self.missed;
         write!(f, "; expected {met} met, {missed} missed")

@@ -84,7 +84,7 @@ module _ (l : Ledger) (m : Fields) (kind : is_kind m.kind ≡ true) (past : way 
   room other = by (went l m kind)
     where
       by : Went l m → length l.answers < most_answers
-      by (again a w k loud) = absurd (true≢false cc)
+      by (again a w k not_silent) = absurd (true≢false cc)
       by (retried a w k silent) = absurd (true≢false cc)
       by (stopped o w check why) = absurd (true≢false cc)
       by (through w none pass free) = (free other).1
@@ -237,7 +237,7 @@ module _ (l : Ledger) (m : Fields) (kind : is_kind m.kind ≡ true) (past : way 
       )
 
   -- a put that is made the first time: what is written of its purchase is what its kind makes of the purchases
-  module _ (k : ℕ) (is : m.kind ≡ k) (row : RowWrite Purchase) (calls : call_at l m k ≡ put_of l m) (loud : eqb k 9 ≡ false)
+  module _ (k : ℕ) (is : m.kind ≡ k) (row : RowWrite Purchase) (calls : call_at l m k ≡ put_of l m) (no_inquiry : eqb k 9 ≡ false)
       (amount : (x : Ledger) (reply : PutReply) → kind_amount (kind_from k) x m (on_put reply) ≡ m.amount)
       (batches : (reply : PutReply) → (kind_moves (kind_from k) m (on_put reply) l).batches ≡ l.batches)
       (answers : (reply : PutReply) → (kind_moves (kind_from k) m (on_put reply) l).answers ≡ l.answers)
@@ -261,12 +261,12 @@ module _ (l : Ledger) (m : Fields) (kind : is_kind m.kind ≡ true) (past : way 
         ∙ ap (λ bs. at x.purchases x.answers bs) (sym (batches reply))
         ∙ ap (noted m (put_answered m r)) (sym (moved_at l m k is r))
         ∙ ap (λ a. noted m a (moved l m r)) (value reply)
-        ∙ sym (remembered_at l m k is r (answered l m r) (moved l m r) (and_from _ _ (not_from_false (eqb k 9) loud) (put_kept reply)))
+        ∙ sym (remembered_at l m k is r (answered l m r) (moved l m r) (and_from _ _ (not_from_false (eqb k 9) no_inquiry) (put_kept reply)))
         ∙ books_past r
 
     puts : Decides (Put (put_for (facts_of l m) (places_of l m) m row None)) l m
     puts =
-        let other : eqb m.kind 9 ≡ false = ap (λ n. eqb n 9) is ∙ loud in (
+        let other : eqb m.kind 9 ≡ false = ap (λ n. eqb n 9) is ∙ no_inquiry in (
           call_past k is ∙ calls,
           λ reply. record {
             answer = value reply ∙ answer_past (on_put reply);
@@ -394,7 +394,7 @@ puts_again l m kind place (goes, at, stands, other) sound = by (went l m kind)
         by_same false same found = absurd cc
 
     by : Went l m → Decides (Put (put_for (facts_of l m) (places_of l m) m (own_row (facts_of l m) (places_of l m)) (Some place))) l m
-    by (again a w k loud) = absurd (true≢false cc)
+    by (again a w k not_silent) = absurd (true≢false cc)
     by (retried a w k silent) = recalls a (remembered_of l m) refl k
     by (stopped o w check why) = absurd (true≢false cc)
     by (through w none pass free) = absurd (true≢false cc)

@@ -74,11 +74,11 @@ by_kind P each (suc (suc (suc (suc (suc (suc (suc (suc (suc (suc n)))))))))) is 
     absurd (omega (arith, leb-true k 9 (and_parts (leb 1 k) (leb k 9) is).1))
 
 -- every kind but the inquiry is among 1 to 8
-abbrev loud_kinds : List ℕ
-loud_kinds = 1 ∷ 2 ∷ 3 ∷ 4 ∷ 5 ∷ 6 ∷ 7 ∷ 8 ∷ []
+abbrev kinds_but_inquiry : List ℕ
+kinds_but_inquiry = 1 ∷ 2 ∷ 3 ∷ 4 ∷ 5 ∷ 6 ∷ 7 ∷ 8 ∷ []
 
-loud_kinds_are : (k : ℕ) → is_kind k ≡ true → among k loud_kinds ≡ not (eqb k 9)
-loud_kinds_are = by_kind (λ k. among k loud_kinds ≡ not (eqb k 9)) (record {
+kinds_but_inquiry_are : (k : ℕ) → is_kind k ≡ true → among k kinds_but_inquiry ≡ not (eqb k 9)
+kinds_but_inquiry_are = by_kind (λ k. among k kinds_but_inquiry ≡ not (eqb k 9)) (record {
   authorisation = refl;
   authorisation_reversal = refl;
   capture = refl;
@@ -123,7 +123,7 @@ module _ (l : Ledger) (m : Fields) (kind : is_kind m.kind ≡ true) where
   pub full_refuses : eqb m.kind 9 ≡ false → most_answers ≤ length l.answers → book_refusal l m ≡ Some MemoryFull
   full_refuses other most =
       ap (λ t. cond t (Some MemoryFull) (refusal m.kind (after_first (book_checks (facts_of l m) m))))
-      (and_from (among m.kind loud_kinds) (leb most_answers (length l.answers)) (loud_kinds_are m.kind kind ∙ ap not other) (le-leb most_answers (length l.answers) most))
+      (and_from (among m.kind kinds_but_inquiry) (leb most_answers (length l.answers)) (kinds_but_inquiry_are m.kind kind ∙ ap not other) (le-leb most_answers (length l.answers) most))
 
   -- a message that is no repeat, and whose request number is not used
   went_checked : way l m ≡ choose None None (book_refusal l m) → recalled l m ≡ None → (eqb m.kind 9 ≡ false → remembered_of l m ≡ None) → Went l m
@@ -133,7 +133,7 @@ module _ (l : Ledger) (m : Fields) (kind : is_kind m.kind ≡ true) where
       later = after_first (book_checks (facts_of l m) m)
 
       book : (not (eqb m.kind 9) && leb most_answers (length l.answers)) ≡ false → book_refusal l m ≡ refusal m.kind later
-      book e = cond-false _ (Some MemoryFull) (refusal m.kind later) (ap (λ u. u && leb most_answers (length l.answers)) (loud_kinds_are m.kind kind) ∙ e)
+      book e = cond-false _ (Some MemoryFull) (refusal m.kind later) (ap (λ u. u && leb most_answers (length l.answers)) (kinds_but_inquiry_are m.kind kind) ∙ e)
 
       roomy : (not (eqb m.kind 9) && leb most_answers (length l.answers)) ≡ false → eqb m.kind 9 ≡ false → (remembered_of l m ≡ None) × (length l.answers < most_answers)
       roomy e other = (free other, leb-false most_answers (length l.answers) (ap (λ u. not u && leb most_answers (length l.answers)) (sym other) ∙ e))
@@ -157,7 +157,7 @@ module _ (l : Ledger) (m : Fields) (kind : is_kind m.kind ≡ true) where
   pub way_by : (nine : Bool) → eqb m.kind 9 ≡ nine → (r : Option Remembered) → remembered_of l m ≡ r
       → way l m ≡ choose (cond (not nine && used_otherwise r m) (Some RequestNumberUsed) None) (repeat_in r m) (book_refusal l m)
   way_by nine e r is =
-      ap (λ t. choose (cond (t && used_otherwise (remembered_of l m) m) (Some RequestNumberUsed) None) (recalled l m) (book_refusal l m)) (loud_kinds_are m.kind kind ∙ ap not e)
+      ap (λ t. choose (cond (t && used_otherwise (remembered_of l m) m) (Some RequestNumberUsed) None) (recalled l m) (book_refusal l m)) (kinds_but_inquiry_are m.kind kind ∙ ap not e)
       ∙ ap (λ x. choose (cond (not nine && used_otherwise x m) (Some RequestNumberUsed) None) (repeat_in x m) (book_refusal l m)) is
 
   -- a repeat
@@ -208,7 +208,7 @@ pub through_passes : (l : Ledger) (m : Fields) → is_kind m.kind ≡ true → w
 through_passes l m kind is = by (went l m kind)
   where
     by : Went l m → book_refusal l m ≡ None
-    by (again a w known loud) = cc
+    by (again a w known not_silent) = cc
     by (retried a w known silent) = cc
     by (stopped o w check why) = cc
     by (through w none passed free) = passed
@@ -223,10 +223,10 @@ stopped_room l m kind o is kept = by (went l m kind)
     refused : Refused l m o → length l.answers < most_answers
     refused (used_number is taken) = absurd (both_ways _ (ap (λ x. not (is_forgotten x)) is) parts.1)
     refused (full_memory is new most) = absurd (both_ways _ (ap (λ x. not (is_forgotten x)) is) parts.1)
-    refused (other_check loud none free) = (free (not-true _ parts.0)).1
+    refused (other_check not_forgotten none free) = (free (not-true _ parts.0)).1
 
     by : Went l m → length l.answers < most_answers
-    by (again a w known loud) = absurd (true≢false cc)
+    by (again a w known not_silent) = absurd (true≢false cc)
     by (retried a w known silent) = absurd (true≢false cc)
     by (stopped x w check why) = let same : x ≡ o = cc in refused (subst (Refused l m) same why)
     by (through w none passed free) = absurd (true≢false cc)
@@ -236,7 +236,7 @@ pub stopped_heard : (l : Ledger) (m : Fields) → is_kind m.kind ≡ true → (o
 stopped_heard l m kind o is = by (went l m kind)
   where
     by : Went l m → eqb (outcome_code o) 25 ≡ false
-    by (again a w known loud) = absurd (true≢false cc)
+    by (again a w known not_silent) = absurd (true≢false cc)
     by (retried a w known silent) = absurd (true≢false cc)
     by (stopped x w check why) = let same : x ≡ o = cc in check_apart o HostSilent (ap is_check (sym same) ∙ check) refl
     by (through w none passed free) = absurd (true≢false cc)

@@ -22,7 +22,7 @@ pub struct Batch {
 }
 
 /// A batch is known by its course and number.
-#[derive(Clone, Copy, PartialEq, Eq, Debug)]
+#[derive(Clone, Copy)]
 pub struct BatchKey {
     pub course: u32,
     pub number: u32,

@@ -5,6 +5,7 @@ ghost use Rattle.rules.specs.Causes.{holds};
 ghost use Rattle.rules.specs.Checks.{Numbered, among, book_checks, refusal, refuses};
 ghost use Rattle.rules.specs.Table.{kinds_in, row_of};
 
+use crate::batch::Batch;
 use crate::facts::{ANSWERS, BATCHES, Facts, PURCHASES};
 use crate::outcome::Outcome::{self, *};
 use crate::purchase::{Purchase, message_card};
@@ -78,6 +79,7 @@ impl Cause {
     {
         let known = f.purchase.is_some();
         let p = f.purchase.as_ref().unwrap_or(&Purchase::NONE);
+        let b = f.batch.as_ref().unwrap_or(&Batch::NONE);
         match self {
             Cause::NoRowForAnswer => f.answers >= ANSWERS,
             Cause::NoSuchPurchase => !known,
@@ -94,7 +96,7 @@ impl Cause {
             Cause::AboveUncredited => m.amount > p.uncredited(),
             Cause::AboveCredited => m.amount > p.credited,
             Cause::NoSuchBatch => f.batch.is_none(),
-            Cause::ClosedBatch => f.batch.is_some_and(|b| b.closed),
+            Cause::ClosedBatch => b.closed,
             Cause::OtherBatchOrCredited => p.batch != m.batch || p.credited > 0,
             Cause::BatchExists => f.batch.is_some(),
             Cause::NoRowForBatch => f.batches >= BATCHES,
@@ -107,7 +109,6 @@ impl Cause {
 struct Row(Outcome, u16, Cause);
 
 impl Row {
-    #[tactic(auto, using(crate::proofs::Table::names_kind))]
     fn names(&self, kind: Kind) -> bool
         ensures { result ≡ among (kind_number kind) (kinds_in self.now.1) }
     {

@@ -13,7 +13,7 @@ pub const ANSWERS: usize = 256;
 pub const BATCHES: usize = 8;
 
 /// What a message finds in the books.
-#[derive(Clone, Copy, PartialEq, Eq, Debug)]
+#[derive(Clone, Copy)]
 pub struct Facts {
     /// How many answers are remembered.
     pub answers: usize,

@@ -18,7 +18,7 @@ use wire::opened::Opened;
 
 /// Where the rows that a message finds stand in their lists; where it finds none, where the next
 /// row goes.
-#[derive(Clone, Copy, PartialEq, Eq, Debug)]
+#[derive(Clone, Copy)]
 pub struct Places {
     pub purchase: usize,
     pub batch: usize,

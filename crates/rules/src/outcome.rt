@@ -2,7 +2,7 @@
 ghost use Rattle.std.specs.Prelude.{◌≡◌};
 ghost use Rattle.std.specs.Int.{w64};
 ghost use Rattle.std.proofs.Common.{to_z};
-ghost use Rattle.rules.specs.Outcome.{outcome_code};
+ghost use Rattle.rules.specs.Outcome.{outcome_code, outcome_reason};
 ghost use Rattle.rules.specs.Rules.{on_put, outcome_of, read_answered, refused_amount, refused_with, success};
 
 use fields::kind::Kind;
@@ -58,6 +58,35 @@ impl From<Outcome> for u8 {
 
     fn from(outcome: Outcome) -> u8 {
         outcome as u8
+    }
+}
+
+impl Outcome {
+    /// The outcome in words.
+    pub fn reason(self) -> &'static str
+        ensures { result.now ≡ outcome_reason self }
+    {
+        match self {
+            Outcome::Success => "done",
+            Outcome::RequestNumberUsed => "request number used",
+            Outcome::MemoryFull => "memory full",
+            Outcome::UnknownXid => "unknown purchase",
+            Outcome::PiAuthMismatch => "another course's purchase or another card",
+            Outcome::InDoubt => "purchase in doubt",
+            Outcome::PiPreviouslyUsed => "already authorised",
+            Outcome::PurchasesFull => "purchases full",
+            Outcome::NothingAuthorised => "nothing authorised",
+            Outcome::DuplicateRequest => "already captured",
+            Outcome::NothingCaptured => "nothing captured",
+            Outcome::AmountOutOfBounds => "amount out of bounds",
+            Outcome::BatchUnknown => "batch unknown",
+            Outcome::BatchClosed => "batch closed",
+            Outcome::NotReversible => "capture not reversible",
+            Outcome::BatchNumberUsed => "batch number used",
+            Outcome::BatchesFull => "batches full",
+            Outcome::HostRefused => "refused by the bank",
+            Outcome::HostSilent => "not answered",
+        }
     }
 }
 

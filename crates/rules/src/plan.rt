@@ -11,7 +11,7 @@ use host::{Pair, PutReply};
 use wire::message::Fields;
 
 /// What is written into one list of rows.
-#[derive(Clone, Copy, PartialEq, Eq, Debug)]
+#[derive(Drop)]
 pub enum RowWrite<R> {
     /// The row at this place becomes this one.
     Replace(usize, R),
@@ -20,7 +20,7 @@ pub enum RowWrite<R> {
 }
 
 /// What performing a message leaves in the books, and its answer.
-#[derive(PartialEq, Eq, Debug, Drop)]
+#[derive(Drop)]
 pub struct Change {
     pub answer: Performed,
     /// What is written of its purchase, its batch and its answer.
@@ -30,7 +30,7 @@ pub struct Change {
 }
 
 /// A put that a message makes: of its amount, for this pair.
-#[derive(PartialEq, Eq, Debug, Drop)]
+#[derive(Drop)]
 pub struct HostPut {
     pub pair: Pair,
     /// The message, whose amount is put.
@@ -42,7 +42,7 @@ pub struct HostPut {
 }
 
 /// What is to be done with a message.
-#[derive(PartialEq, Eq, Debug, Drop)]
+#[derive(Drop)]
 pub enum Plan {
     /// It is answered so, and nothing changes.
     Answer(Performed),

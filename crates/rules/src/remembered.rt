@@ -28,7 +28,7 @@ pub fn is_inquiry(m: &Fields) -> bool
 }
 
 /// What the remembered answers say of a message.
-#[derive(Clone, Copy, PartialEq, Eq, Debug)]
+#[derive(Clone, Copy)]
 pub enum Recalled {
     /// It was answered so, and is answered so again.
     Answered(Performed),
@@ -56,7 +56,7 @@ impl Recalled {
 }
 
 /// What a remembered answer is looked for by: course and request number.
-#[derive(Clone, Copy, PartialEq, Eq, Debug)]
+#[derive(Clone, Copy)]
 pub struct RequestKey {
     pub course: u32,
     pub request: u64,

@@ -12,30 +12,138 @@ mod tests {
     // The purchase's name in every vector.
     const XID: [u8; 20] = [1; 20];
 
-    fn blank(kind: u8, request: u64) -> Fields {
-        Fields {
-            kind,
-            request,
-            course: 9,
-            xid: [0; 20],
-            card: 0,
-            amount: 0,
-            batch: 0,
-        }
+    const BLANK: Fields = Fields {
+        kind: 0,
+        request: 0,
+        course: 9,
+        xid: [0; 20],
+        card: 0,
+        amount: 0,
+        batch: 0,
+    };
+
+    // A message of each kind, and its bytes.
+    const MESSAGES: [(Fields, &[u8]); 9] = [
+        (
+            Fields {
+                kind: 1,
+                request: 1,
+                xid: XID,
+                card: 4_111_111_111_111_111,
+                amount: 3000,
+                ..BLANK
+            },
+            b"\xfc\x00\x01\x00\x00\x00\x00\x00\x00\x00\x01\x00\x00\x00\x09\
+              \x01\x01\x01\x01\x01\x01\x01\x01\x01\x01\x01\x01\x01\x01\x01\x01\x01\x01\x01\x01\
+              \x41\x11\x11\x11\x11\x11\x11\x11\xff\xff\x00\x00\x00\x00\x00\x00\x0b\xb8",
+        ),
+        (
+            Fields {
+                kind: 2,
+                request: 2,
+                xid: XID,
+                amount: 2500,
+                ..BLANK
+            },
+            b"\xf4\x00\x02\x00\x00\x00\x00\x00\x00\x00\x02\x00\x00\x00\x09\
+              \x01\x01\x01\x01\x01\x01\x01\x01\x01\x01\x01\x01\x01\x01\x01\x01\x01\x01\x01\x01\
+              \x00\x00\x00\x00\x00\x00\x09\xc4",
+        ),
+        (
+            Fields {
+                kind: 3,
+                request: 3,
+                xid: XID,
+                amount: 2500,
+                batch: 7,
+                ..BLANK
+            },
+            b"\xf6\x00\x03\x00\x00\x00\x00\x00\x00\x00\x03\x00\x00\x00\x09\
+              \x01\x01\x01\x01\x01\x01\x01\x01\x01\x01\x01\x01\x01\x01\x01\x01\x01\x01\x01\x01\
+              \x00\x00\x00\x00\x00\x00\x09\xc4\x00\x00\x00\x07",
+        ),
+        (
+            Fields {
+                kind: 4,
+                request: 4,
+                xid: XID,
+                batch: 7,
+                ..BLANK
+            },
+            b"\xf2\x00\x04\x00\x00\x00\x00\x00\x00\x00\x04\x00\x00\x00\x09\
+              \x01\x01\x01\x01\x01\x01\x01\x01\x01\x01\x01\x01\x01\x01\x01\x01\x01\x01\x01\x01\
+              \x00\x00\x00\x07",
+        ),
+        (
+            Fields {
+                kind: 5,
+                request: 5,
+                xid: XID,
+                amount: 2500,
+                batch: 7,
+                ..BLANK
+            },
+            b"\xf6\x00\x05\x00\x00\x00\x00\x00\x00\x00\x05\x00\x00\x00\x09\
+              \x01\x01\x01\x01\x01\x01\x01\x01\x01\x01\x01\x01\x01\x01\x01\x01\x01\x01\x01\x01\
+              \x00\x00\x00\x00\x00\x00\x09\xc4\x00\x00\x00\x07",
+        ),
+        (
+            Fields {
+                kind: 6,
+                request: 6,
+                xid: XID,
+                amount: 2500,
+                batch: 7,
+                ..BLANK
+            },
+            b"\xf6\x00\x06\x00\x00\x00\x00\x00\x00\x00\x06\x00\x00\x00\x09\
+              \x01\x01\x01\x01\x01\x01\x01\x01\x01\x01\x01\x01\x01\x01\x01\x01\x01\x01\x01\x01\
+              \x00\x00\x00\x00\x00\x00\x09\xc4\x00\x00\x00\x07",
+        ),
+        (
+            Fields {
+                kind: 7,
+                request: 7,
+                batch: 7,
+                ..BLANK
+            },
+            b"\xe2\x00\x07\x00\x00\x00\x00\x00\x00\x00\x07\x00\x00\x00\x09\x00\x00\x00\x07",
+        ),
+        (
+            Fields {
+                kind: 8,
+                request: 8,
+                batch: 7,
+                ..BLANK
+            },
+            b"\xe2\x00\x08\x00\x00\x00\x00\x00\x00\x00\x08\x00\x00\x00\x09\x00\x00\x00\x07",
+        ),
+        (
+            Fields {
+                kind: 9,
+                request: 9,
+                xid: XID,
+                ..BLANK
+            },
+            b"\xf0\x00\x09\x00\x00\x00\x00\x00\x00\x00\x09\x00\x00\x00\x09\
+              \x01\x01\x01\x01\x01\x01\x01\x01\x01\x01\x01\x01\x01\x01\x01\x01\x01\x01\x01\x01",
+        ),
+    ];
+
+    // Writing gives these bytes and touches nothing past them.
+    fn is_written(rt: &impl Abort, fields: &Fields, bytes: &[u8]) -> Result<(), Fail> {
+        let mut buffer = [0xEEu8; 64];
+        let length = write(fields, &mut buffer)?;
+        assert!(rt; buffer.get(..length) == Some(bytes));
+        assert!(rt; buffer.get(length) == Some(&0xEE));
+        Ok(())
     }
 
-    // Writing gives these bytes and touches nothing past them; opening them gives the fields and
-    // leaves zeros.
-    fn both_ways(rt: &impl Abort, fields: Fields, bytes: &[u8]) -> Result<(), Fail> {
-        let mut buffer = [0xEEu8; 64];
-        let length = write(&fields, &mut buffer)?;
-        assert_eq!(rt; length, bytes.len());
-        assert!(rt; length < 64);
-        assert!(rt; &buffer[0..length] == bytes);
-        assert_eq!(rt; buffer[length], 0xEE);
+    // Opening these bytes gives the fields and leaves zeros.
+    fn is_opened(rt: &impl Abort, fields: &Fields, bytes: &[u8]) -> Result<(), Fail> {
         let mut strip = [0x77u8; 20];
         let opened = open(bytes, &mut strip)?;
-        assert_eq!(rt; opened.fields(), fields);
+        assert_eq!(rt; opened.fields(), *fields);
         assert!(rt; strip[0] == 0 && strip[18] == 0 && strip[19] == 0x77);
         Ok(())
     }
@@ -67,121 +175,11 @@ mod tests {
     }
 
     #[test]
-    fn authorisation(rt: HostRuntime) -> Result<(), Fail> {
-        let bytes = b"\xfc\x00\x01\x00\x00\x00\x00\x00\x00\x00\x01\x00\x00\x00\x09\
-              \x01\x01\x01\x01\x01\x01\x01\x01\x01\x01\x01\x01\x01\x01\x01\x01\x01\x01\x01\x01\
-              \x41\x11\x11\x11\x11\x11\x11\x11\xff\xff\x00\x00\x00\x00\x00\x00\x0b\xb8";
-        both_ways(
-            &rt,
-            Fields {
-                xid: XID,
-                card: 4_111_111_111_111_111,
-                amount: 3000,
-                ..blank(1, 1)
-            },
-            bytes,
-        )
-    }
-
-    #[test]
-    fn authorisation_reversal(rt: HostRuntime) -> Result<(), Fail> {
-        let bytes = b"\xf4\x00\x02\x00\x00\x00\x00\x00\x00\x00\x02\x00\x00\x00\x09\
-              \x01\x01\x01\x01\x01\x01\x01\x01\x01\x01\x01\x01\x01\x01\x01\x01\x01\x01\x01\x01\
-              \x00\x00\x00\x00\x00\x00\x09\xc4";
-        both_ways(
-            &rt,
-            Fields {
-                xid: XID,
-                amount: 2500,
-                ..blank(2, 2)
-            },
-            bytes,
-        )
-    }
-
-    #[test]
-    fn capture_and_credits(rt: HostRuntime) -> Result<(), Fail> {
-        let vectors: [(u8, &[u8]); 3] = [
-            (
-                3,
-                b"\xf6\x00\x03\x00\x00\x00\x00\x00\x00\x00\x03\x00\x00\x00\x09\
-                  \x01\x01\x01\x01\x01\x01\x01\x01\x01\x01\x01\x01\x01\x01\x01\x01\x01\x01\x01\x01\
-                  \x00\x00\x00\x00\x00\x00\x09\xc4\x00\x00\x00\x07",
-            ),
-            (
-                5,
-                b"\xf6\x00\x05\x00\x00\x00\x00\x00\x00\x00\x05\x00\x00\x00\x09\
-                  \x01\x01\x01\x01\x01\x01\x01\x01\x01\x01\x01\x01\x01\x01\x01\x01\x01\x01\x01\x01\
-                  \x00\x00\x00\x00\x00\x00\x09\xc4\x00\x00\x00\x07",
-            ),
-            (
-                6,
-                b"\xf6\x00\x06\x00\x00\x00\x00\x00\x00\x00\x06\x00\x00\x00\x09\
-                  \x01\x01\x01\x01\x01\x01\x01\x01\x01\x01\x01\x01\x01\x01\x01\x01\x01\x01\x01\x01\
-                  \x00\x00\x00\x00\x00\x00\x09\xc4\x00\x00\x00\x07",
-            ),
-        ];
-        for (kind, bytes) in vectors {
-            let fields = Fields {
-                xid: XID,
-                amount: 2500,
-                batch: 7,
-                ..blank(kind, u64::from(kind))
-            };
-            both_ways(&rt, fields, bytes)?;
+    fn messages(rt: HostRuntime) -> Result<(), Fail> {
+        for (fields, bytes) in MESSAGES {
+            is_written(&rt, &fields, bytes)?;
+            is_opened(&rt, &fields, bytes)?;
         }
         Ok(())
-    }
-
-    #[test]
-    fn capture_reversal(rt: HostRuntime) -> Result<(), Fail> {
-        let bytes = b"\xf2\x00\x04\x00\x00\x00\x00\x00\x00\x00\x04\x00\x00\x00\x09\
-              \x01\x01\x01\x01\x01\x01\x01\x01\x01\x01\x01\x01\x01\x01\x01\x01\x01\x01\x01\x01\
-              \x00\x00\x00\x07";
-        both_ways(
-            &rt,
-            Fields {
-                xid: XID,
-                batch: 7,
-                ..blank(4, 4)
-            },
-            bytes,
-        )
-    }
-
-    #[test]
-    fn batch_open_and_close(rt: HostRuntime) -> Result<(), Fail> {
-        let vectors: [(u8, &[u8]); 2] = [
-            (
-                7,
-                b"\xe2\x00\x07\x00\x00\x00\x00\x00\x00\x00\x07\x00\x00\x00\x09\x00\x00\x00\x07",
-            ),
-            (
-                8,
-                b"\xe2\x00\x08\x00\x00\x00\x00\x00\x00\x00\x08\x00\x00\x00\x09\x00\x00\x00\x07",
-            ),
-        ];
-        for (kind, bytes) in vectors {
-            let fields = Fields {
-                batch: 7,
-                ..blank(kind, u64::from(kind))
-            };
-            both_ways(&rt, fields, bytes)?;
-        }
-        Ok(())
-    }
-
-    #[test]
-    fn inquiry(rt: HostRuntime) -> Result<(), Fail> {
-        let bytes = b"\xf0\x00\x09\x00\x00\x00\x00\x00\x00\x00\x09\x00\x00\x00\x09\
-              \x01\x01\x01\x01\x01\x01\x01\x01\x01\x01\x01\x01\x01\x01\x01\x01\x01\x01\x01\x01";
-        both_ways(
-            &rt,
-            Fields {
-                xid: XID,
-                ..blank(9, 9)
-            },
-            bytes,
-        )
     }
 }

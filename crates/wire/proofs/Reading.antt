@@ -1,5 +1,7 @@
 -- Eight fields handed out one after the other, each leaving the message and the kind as they were.
-use Rattle.std.proofs.Common.{◌≡◌, ℕ, List, refl, ap, ◌∙◌}
+use Rattle.std.proofs.Common.{◌≡◌, ℕ, ◌^◌, true, ltb, List, refl, ap, ◌∙◌, arith}
+use Rattle.std.proofs.lemmas.Bool.{ltb-true}
+use Rattle.fields.proofs.Places.{ones_are_fields}
 use lib.Count.{ones}
 use Rattle.fields.specs.Field.{fields_from}
 use Rattle.fields.specs.Kind.{kind_number, map_of}
@@ -14,15 +16,20 @@ as_first F k k₀ m m₀ same = ap (λ x. F (map_of (kind_number x)) m) same.1 �
 pub still : {k₀ k₁ k₂ : Kind} {m₀ m₁ m₂ : List ℕ} → (m₂ ≡ m₁) × (k₂ ≡ k₁) → (m₁ ≡ m₀) × (k₁ ≡ k₀) → (m₂ ≡ m₀) × (k₂ ≡ k₀)
 still more before = (more.0 ∙ before.0, more.1 ∙ before.1)
 
--- a kind's map has as many fields as ones, and none of them past the eighth
+-- a map of sixteen bits has as many fields as ones
+all_fields : (map : ℕ) → ltb map (2 ^ 16) ≡ true → fields_from map 0 ≡ ones map
+unfolding fields_from
+all_fields map small = omega (arith, ones_are_fields map (ltb-true map (2 ^ 16) small))
+
+-- so has a kind's map, and none of them past the eighth
 pub fields_of_kind : (k : Kind) → (fields_from (map_of (kind_number k)) 0 ≡ ones (map_of (kind_number k))) × (fields_from (map_of (kind_number k)) 8 ≡ 0)
-unfolding ones
-fields_of_kind AuthReq = (refl, refl)
-fields_of_kind AuthRevReq = (refl, refl)
-fields_of_kind CapReq = (refl, refl)
-fields_of_kind CapRevReq = (refl, refl)
-fields_of_kind CredReq = (refl, refl)
-fields_of_kind CredRevReq = (refl, refl)
-fields_of_kind BatchOpen = (refl, refl)
-fields_of_kind BatchClose = (refl, refl)
-fields_of_kind Inquiry = (refl, refl)
+unfolding fields_from
+fields_of_kind AuthReq = (all_fields _ refl, refl)
+fields_of_kind AuthRevReq = (all_fields _ refl, refl)
+fields_of_kind CapReq = (all_fields _ refl, refl)
+fields_of_kind CapRevReq = (all_fields _ refl, refl)
+fields_of_kind CredReq = (all_fields _ refl, refl)
+fields_of_kind CredRevReq = (all_fields _ refl, refl)
+fields_of_kind BatchOpen = (all_fields _ refl, refl)
+fields_of_kind BatchClose = (all_fields _ refl, refl)
+fields_of_kind Inquiry = (all_fields _ refl, refl)

@@ -1,7 +1,7 @@
 //! What stands in the bytes of a message or of an answer, field by field.
 
 /// All fields that have a width, the card packed. A field that the map lacks is 0.
-#[derive(Clone, Copy, PartialEq, Eq, Debug)]
+#[derive(Clone, Copy)]
 pub struct Parts {
     /// as the code, any byte
     pub kind: u8,

@@ -1,10 +1,11 @@
 use Rattle.std.proofs.Common.{◌≡◌, ◌≤◌, None, sym, ap, ◌∙◌, subst}
 use Rattle.fields.specs.Kind.{kind_number, most_pence}
 use Rattle.wire.specs.declared.message.Fields.{Fields}
-use Rattle.rules.specs.Change.{capturing, closing_batch, crediting, reversing_capture, reversing_credit}
+use Rattle.rules.specs.Change.{capturing, closing_batch, crediting, opening_batch, reversing_capture, reversing_credit}
+use Rattle.rules.specs.Found.{pair_in}
 use Rattle.rules.specs.Plan.{own_or_new_row, own_row, put_for}
-use Rattle.rules.specs.declared.plan.Plan.TheVariants.{Commit, Put}
-use Rattle.rules.proofs.Plans.{authorises, bounded_found, captures, closes, credits, lowers, planned, reverses_capture, reverses_credit, sound_found}
+use Rattle.rules.specs.declared.plan.Plan.TheVariants.{Commit, Put, Read}
+use Rattle.rules.proofs.Plans.{authorises, bounded_found, captures, closes, credits, lowers, opens, planned, reads, reverses_capture, reverses_credit, sound_found}
 use Rattle.rules.proofs.found.Found.carry_out.Goals as goal
 
 small : (m n : Fields) → m ≡ n → m.amount ≤ most_pence → n.amount ≤ most_pence
@@ -68,6 +69,14 @@ returns-in-CredRevReq c l finds goes =
     (sym c.kind.ensures ∙ ap kind_number c.in-CredRevReq.is))
     (Commit c.reverse_credit.result) (ap Commit c.reverse_credit.ensures)
 
+pub returns-in-BatchOpen : goal.returns-in-BatchOpen
+returns-in-BatchOpen c l finds goes =
+    let found = c.args.self.now in
+    let message = c.args.message.now in
+    let m = message.fields in
+    planned found l m finds (λ f places. Commit (opening_batch m)) (opens l m message.known goes (sym c.kind.ensures ∙ ap kind_number c.in-BatchOpen.is)) (Commit c.open_batch.result)
+    (ap Commit (c.open_batch.ensures ∙ ap opening_batch c.fields-m.ensures.value))
+
 pub returns-in-BatchClose : goal.returns-in-BatchClose
 returns-in-BatchClose c l finds goes =
     let found = c.args.self.now in
@@ -76,3 +85,11 @@ returns-in-BatchClose c l finds goes =
     planned found l m finds (λ f places. Commit (closing_batch f places m))
     (closes l m message.known goes (sym c.kind.ensures ∙ ap kind_number c.in-BatchClose.is) (bounded_found found l m finds)) (Commit c.close_batch.result)
     (ap Commit (c.close_batch.ensures ∙ ap (closing_batch found.facts found.places) c.fields-m.ensures.value))
+
+pub returns-in-Inquiry : goal.returns-in-Inquiry
+returns-in-Inquiry c l finds goes =
+    let found = c.args.self.now in
+    let message = c.args.message.now in
+    let m = message.fields in
+    planned found l m finds (λ f places. Read (pair_in f places m)) (reads l m message.known goes (sym c.kind.ensures ∙ ap kind_number c.in-Inquiry.is)) (Read c.pair.result)
+    (ap Read c.pair.ensures)
