@@ -596,8 +596,10 @@ impl<H: Host> Gateway<H> {
 
     fn reverse_capture(&mut self, m: &Fields) -> Result<u64, u8> {
         let p = captured(&mut self.purchases, m)?;
+        let closed = |b: &Batch| b.number == p.batch && b.course == p.course && b.closed;
+        let elsewhere = p.batch != m.batch && !self.batches.iter().any(closed);
         let b = open_batch(&mut self.batches, m)?;
-        if p.batch != m.batch || p.credited > 0 {
+        if p.credited > 0 || elsewhere {
             return Err(21);
         }
         b.total -= p.captured as i64;

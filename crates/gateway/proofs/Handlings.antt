@@ -1,6 +1,5 @@
 -- Handling by its three cases: no room, a message, bytes that hold none.
 use Rattle.std.proofs.Common.{◌≡◌, ℕ, Bool, true, false, cond, ltb, List, length, Some, Ok, Err, Result, sym, refl, ap, ◌∙◌, subst}
-use Rattle.std.proofs.lemmas.Bool.{true≢false}
 use Rattle.fields.specs.Kind.{kind_number}
 use Rattle.fields.specs.Refusal.{refusal_number}
 use Rattle.fields.specs.declared.kind.Kind.{Kind}

@@ -3,7 +3,7 @@
 ghost use Rattle.std.specs.Prelude.{◌≡◌, ◌≤◌, true, IfOk, length, vec_len, vec_capacity};
 ghost use Rattle.rows.specs.First.{row_with};
 ghost use Rattle.std.specs.Option.{unwrap_or};
-ghost use Rattle.rules.specs.Ledger.{batch_row, most_answers, most_purchases, no_batch, no_ledger, no_purchase, purchase_row};
+ghost use Rattle.rules.specs.Ledger.{batch_row, captured_in_open, most_answers, most_purchases, no_batch, no_ledger, no_purchase, purchase_row};
 ghost use Rattle.rules.specs.Change.{Fits, FitsIn, ledger_after, rows_after};
 ghost use Rattle.rules.specs.Found.{Finds, place_in, places_of};
 ghost use Rattle.rules.specs.Recalled.{Recalls};
@@ -104,6 +104,18 @@ impl Books {
         locate(self.batches.as_slice(), &BatchKey::of(m))
     }
 
+    /// Whether something of the purchase is captured, in a batch that is open. A batch that the books
+    /// do not have is read as open.
+    fn captured_in_open(&self, p: &Purchase) -> bool
+        ensures { result ≡ captured_in_open self.now p.now }
+    {
+        if p.captured == 0 {
+            return false;
+        }
+        let (batch, _) = locate(self.batches.as_slice(), &BatchKey::of_capture(p));
+        batch.is_none_or(|b| !b.closed)
+    }
+
     /// What is remembered of the message. Inquiries are not remembered, and not looked for.
     #[inline(never)]
     pub(crate) fn recall(&self, message: &Opened) -> Recalled
@@ -121,13 +133,15 @@ impl Books {
         }
     }
 
-    /// The purchase and the batch that the message names, by one search of each list.
+    /// The purchase and the batch that the message names, and whether that purchase is captured in
+    /// an open batch.
     pub(crate) fn look_up(&self, message: &Opened) -> Found
         ensures { Finds result self.now message.now.fields }
     {
         let m = message.fields();
         let (purchase, purchase_at) = self.find_purchase(&m);
         let (batch, batch_at) = self.find_batch(&m);
+        let captured_in_open = purchase.is_some_and(|p| self.captured_in_open(&p));
         Found {
             facts: Facts {
                 answers: self.answers().len(),
@@ -135,6 +149,7 @@ impl Books {
                 batches: self.batches().len(),
                 purchase,
                 batch,
+                captured_in_open,
             },
             places: Places {
                 purchase: purchase_at,

@@ -77,7 +77,7 @@ module _ (l : Ledger) (m : Fields) (none : refusal m.kind (book_checks (facts_of
 
   -- a capture reversal finds nothing credited
   pub nothing_credited : m.kind ≡ 4 → (purchase_of l m).credited ≡ 0
-  nothing_credited is = at_zero _ (or_parts _ _ (or_parts _ _ (passed NotReversible 4 is)).0).1
+  nothing_credited is = at_zero _ (or_parts _ _ (or_parts _ _ (passed NotReversible 4 is)).0).0
 
   -- an authorisation reversal asks less than is authorised
   pub lowers : m.kind ≡ 2 → m.amount < (purchase_of l m).authorised

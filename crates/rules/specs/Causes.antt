@@ -5,7 +5,7 @@ use Rattle.wire.specs.declared.message.Fields.{Fields}
 use Rattle.rules.specs.Ledger.{batch_in, most_answers, most_batches, most_purchases, purchase_in, uncredited}
 use Rattle.rules.specs.MessageCard.{message_card}
 use Rattle.rules.specs.declared.checks.Cause.{Cause}
-use Rattle.rules.specs.declared.checks.Cause.TheVariants.{NoRowForAnswer, NoSuchPurchase, OtherCourse, OtherCard, HasDoubt, SomeAuthorised, NoRowForPurchase, NoneAuthorised, SomeCaptured, NoneCaptured, NotBelowAuthorised, AboveAuthorised, AboveUncredited, AboveCredited, NoSuchBatch, ClosedBatch, OtherBatchOrCredited, BatchExists, NoRowForBatch}
+use Rattle.rules.specs.declared.checks.Cause.TheVariants.{NoRowForAnswer, NoSuchPurchase, OtherCourse, OtherCard, HasDoubt, SomeAuthorised, NoRowForPurchase, NoneAuthorised, SomeCaptured, NoneCaptured, NotBelowAuthorised, AboveAuthorised, AboveUncredited, AboveCredited, NoSuchBatch, ClosedBatch, CreditedOrOpenElsewhere, BatchExists, NoRowForBatch}
 use Rattle.rules.specs.declared.facts.Facts.{Facts}
 
 abbrev pub holds : Cause → Facts → Fields → Bool
@@ -25,7 +25,8 @@ holds AboveUncredited f m = nat_lt (uncredited (purchase_in f)) m.amount
 holds AboveCredited f m = nat_lt (purchase_in f).credited m.amount
 holds NoSuchBatch f m = not (is_some f.batch)
 holds ClosedBatch f m = (batch_in f).closed
-holds OtherBatchOrCredited f m =
-    not ((purchase_in f).batch == m.batch) || nat_lt 0 (purchase_in f).credited
+holds CreditedOrOpenElsewhere f m =
+    nat_lt 0 (purchase_in f).credited
+    || (f.captured_in_open && not ((purchase_in f).batch == m.batch))
 holds BatchExists f m = is_some f.batch
 holds NoRowForBatch f m = nat_le most_batches f.batches

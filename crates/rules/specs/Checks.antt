@@ -5,7 +5,7 @@ use Rattle.wire.specs.declared.message.Fields.{Fields}
 use Rattle.rules.specs.Causes.{holds}
 use Rattle.rules.specs.Outcome.{outcome_code}
 use Rattle.rules.specs.Same.{same_fields}
-use Rattle.rules.specs.declared.checks.Cause.TheVariants.{NoRowForAnswer, NoSuchPurchase, OtherCourse, OtherCard, HasDoubt, SomeAuthorised, NoRowForPurchase, NoneAuthorised, SomeCaptured, NoneCaptured, NotBelowAuthorised, AboveAuthorised, AboveUncredited, AboveCredited, NoSuchBatch, ClosedBatch, OtherBatchOrCredited, BatchExists, NoRowForBatch}
+use Rattle.rules.specs.declared.checks.Cause.TheVariants.{NoRowForAnswer, NoSuchPurchase, OtherCourse, OtherCard, HasDoubt, SomeAuthorised, NoRowForPurchase, NoneAuthorised, SomeCaptured, NoneCaptured, NotBelowAuthorised, AboveAuthorised, AboveUncredited, AboveCredited, NoSuchBatch, ClosedBatch, CreditedOrOpenElsewhere, BatchExists, NoRowForBatch}
 use Rattle.rules.specs.declared.facts.Facts.{Facts}
 use Rattle.rules.specs.declared.outcome.Outcome.{Outcome}
 use Rattle.rules.specs.declared.outcome.Outcome.TheVariants.{RequestNumberUsed, MemoryFull, UnknownXid, PiAuthMismatch, InDoubt, PiPreviouslyUsed, PurchasesFull, NothingAuthorised, DuplicateRequest, NothingCaptured, AmountOutOfBounds, BatchUnknown, BatchClosed, NotReversible, BatchNumberUsed, BatchesFull}
@@ -63,7 +63,7 @@ book_checks f m =
     ∷ check 18 AmountOutOfBounds (6 ∷ []) (holds AboveCredited f m)
     ∷ check 19 BatchUnknown (3 ∷ 4 ∷ 5 ∷ 6 ∷ 8 ∷ []) (holds NoSuchBatch f m)
     ∷ check 20 BatchClosed (3 ∷ 4 ∷ 5 ∷ 6 ∷ 8 ∷ []) (holds ClosedBatch f m)
-    ∷ check 21 NotReversible (4 ∷ []) (holds OtherBatchOrCredited f m)
+    ∷ check 21 NotReversible (4 ∷ []) (holds CreditedOrOpenElsewhere f m)
     ∷ check 22 BatchNumberUsed (7 ∷ []) (holds BatchExists f m)
     ∷ check 23 BatchesFull (7 ∷ []) (holds NoRowForBatch f m)
     ∷ []

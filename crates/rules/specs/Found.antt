@@ -1,4 +1,4 @@
--- What a message finds in the books: the rows that it names, and where they stand.
+-- What a message finds in the books: what the checks look at, and where its rows stand.
 use Rattle.std.specs.Prelude.{◌≡◌, ℕ, ◌+◌, Bool, List, length}
 use Rattle.std.specs.Option.{unwrap_or}
 use Rattle.host.specs.declared.Pair.{Pair}

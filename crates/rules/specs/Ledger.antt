@@ -1,5 +1,5 @@
 -- The books by their rows, and what a message finds in them.
-use Rattle.std.specs.Prelude.{ℕ, ◌-◌, Bool, false, ◌&&◌, List, [], length, replicate, pos, None, Option, ◌==◌}
+use Rattle.std.specs.Prelude.{ℕ, ◌-◌, Bool, false, not, ◌&&◌, List, [], length, replicate, pos, None, Option, ◌==◌, nat_lt}
 use Rattle.std.specs.Option.{unwrap_or}
 use Rattle.rows.specs.First.{first_with, row_with}
 use Rattle.wire.specs.declared.message.Fields.{Fields}
@@ -77,6 +77,12 @@ remembered_of l m = row_with (of_request m.course m.request) l.answers
 abbrev pub purchase_at : Ledger → Fields → Option ℕ
 purchase_at l m = first_with (of_xid m.xid) l.purchases
 
+-- something of a purchase is captured, in a batch that is open; a missing one is read as open
+abbrev pub captured_in_open : Ledger → Purchase → Bool
+captured_in_open l p =
+    nat_lt 0 p.captured
+    && not (unwrap_or (row_with (of_batch p.course p.batch) l.batches) no_batch).closed
+
 -- all that the checks from 9 on look at beside the message
 abbrev pub facts_of : Ledger → Fields → Facts
 facts_of l m = record {
@@ -85,6 +91,7 @@ facts_of l m = record {
   batches = length l.batches;
   purchase = purchase_row l m;
   batch = batch_row l m;
+  captured_in_open = captured_in_open l (unwrap_or (purchase_row l m) no_purchase);
 }
 
 -- the purchase and the batch among them, each a row of zeros where the books have none

@@ -5,6 +5,7 @@ ghost use Rattle.rules.specs.Ledger.{most_answers, of_batch};
 ghost use Rattle.rules.specs.Rules.{close, minus, new_batch, plus};
 ghost use Rattle.rules.specs.Sound.{most_total, size};
 
+use crate::purchase::Purchase;
 use rows::Keyed;
 use wire::message::Fields;
 
@@ -36,6 +37,16 @@ impl BatchKey {
         BatchKey {
             course: m.course,
             number: m.batch,
+        }
+    }
+
+    /// The key of the batch that a purchase's capture went to.
+    pub fn of_capture(p: &Purchase) -> BatchKey
+        ensures { result ≡ record { course = p.now.course; number = p.now.batch } }
+    {
+        BatchKey {
+            course: p.course,
+            number: p.batch,
         }
     }
 }

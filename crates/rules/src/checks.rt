@@ -67,7 +67,7 @@ enum Cause {
     AboveCredited,
     NoSuchBatch,
     ClosedBatch,
-    OtherBatchOrCredited,
+    CreditedOrOpenElsewhere,
     BatchExists,
     NoRowForBatch,
 }
@@ -97,7 +97,9 @@ impl Cause {
             Cause::AboveCredited => m.amount > p.credited,
             Cause::NoSuchBatch => f.batch.is_none(),
             Cause::ClosedBatch => b.closed,
-            Cause::OtherBatchOrCredited => p.batch != m.batch || p.credited > 0,
+            Cause::CreditedOrOpenElsewhere => {
+                p.credited > 0 || (f.captured_in_open && p.batch != m.batch)
+            }
             Cause::BatchExists => f.batch.is_some(),
             Cause::NoRowForBatch => f.batches >= BATCHES,
         }
@@ -140,7 +142,7 @@ const CHECKS: [Row; 19] = [
     Row(AmountOutOfBounds, CRED_REV_REQ, Cause::AboveCredited),
     Row(BatchUnknown, BOOKING, Cause::NoSuchBatch),
     Row(BatchClosed, BOOKING, Cause::ClosedBatch),
-    Row(NotReversible, CAP_REV_REQ, Cause::OtherBatchOrCredited),
+    Row(NotReversible, CAP_REV_REQ, Cause::CreditedOrOpenElsewhere),
     Row(BatchNumberUsed, BATCH_OPEN, Cause::BatchExists),
     Row(BatchesFull, BATCH_OPEN, Cause::NoRowForBatch),
 ];

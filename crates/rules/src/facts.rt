@@ -1,5 +1,5 @@
-//! All that the checks from 9 on look at beside the message: how many rows there are, and the rows
-//! that it finds.
+//! All that the checks from 9 on look at beside the message: how many rows there are, the rows that
+//! it finds, and whether its purchase is captured in an open batch.
 use crate::batch::Batch;
 use crate::purchase::Purchase;
 
@@ -25,4 +25,6 @@ pub struct Facts {
     pub purchase: Option<Purchase>,
     /// The batch of the message's course and number, if the books have it.
     pub batch: Option<Batch>,
+    /// Whether something of the purchase is captured, in a batch that is open.
+    pub captured_in_open: bool,
 }

@@ -41,7 +41,7 @@ pub enum Outcome {
     BatchUnknown = 19,
     /// The batch is closed.
     BatchClosed = 20,
-    /// The capture went to another batch, or some of it is credited.
+    /// Some of the capture is credited, or its batch is open and the message names another.
     NotReversible = 21,
     /// The course has a batch of the number already.
     BatchNumberUsed = 22,

@@ -18,7 +18,7 @@ use Rattle.rules.specs.Rules.{Call, no_call, put, read, Reply}
 use Rattle.rules.specs.Rules.{reply_of, call_of, answer_of, books_after}
 use Rattle.rules.specs.declared.outcome.Performed.{Performed}
 
--- the course is 9, the XIDs are twenty 01 and twenty 02, the batch is 7
+-- the course is 9, the XIDs are twenty 01 and twenty 02, the batch is 7 where none is named
 abbrev pub card : Card
 card = record { number = 4111111111111111 }
 
@@ -105,17 +105,28 @@ authorisation request xid amount =
 abbrev reversal : ℕ → List ℕ → ℕ → List ℕ
 reversal request xid amount = 0xF4 ∷ 0x00 ∷ (asked 2 request ++ (xid ++ bytes_of 8 amount))
 
--- captures and credits
 abbrev money : ℕ → ℕ → List ℕ → ℕ → List ℕ
 money kind request xid amount =
     0xF6 ∷ 0x00 ∷ (asked kind request ++ (xid ++ (bytes_of 8 amount ++ bytes_of 4 7)))
 
-abbrev capture_reversal : ℕ → List ℕ → List ℕ
-capture_reversal request xid = 0xF2 ∷ 0x00 ∷ (asked 4 request ++ (xid ++ bytes_of 4 7))
+abbrev pub capture : ℕ → List ℕ → ℕ → List ℕ
+capture = money 3
 
--- batch open and close
-abbrev batch : ℕ → ℕ → List ℕ
-batch kind request = 0xE2 ∷ 0x00 ∷ (asked kind request ++ bytes_of 4 7)
+abbrev credit : ℕ → List ℕ → ℕ → List ℕ
+credit = money 5
+
+-- a capture reversal, a batch open and a batch close, of a batch by its number
+abbrev pub capture_reversal : ℕ → List ℕ → ℕ → List ℕ
+capture_reversal request xid number = 0xF2 ∷ 0x00 ∷ (asked 4 request ++ (xid ++ bytes_of 4 number))
+
+abbrev batch : ℕ → ℕ → ℕ → List ℕ
+batch kind request number = 0xE2 ∷ 0x00 ∷ (asked kind request ++ bytes_of 4 number)
+
+abbrev pub batch_open : ℕ → ℕ → List ℕ
+batch_open = batch 7
+
+abbrev pub batch_close : ℕ → ℕ → List ℕ
+batch_close = batch 8
 
 -- the eleven messages of the meeting
 abbrev pub meeting : List (List ℕ)
@@ -124,12 +135,12 @@ meeting =
     ∷ authorisation 1 P 3000
     ∷ authorisation 2 Q 2001
     ∷ authorisation 1 P 2999
-    ∷ batch 7 3
-    ∷ money 3 4 P 3001
-    ∷ money 3 5 P 3000
-    ∷ money 5 6 P 1200
-    ∷ capture_reversal 7 P
-    ∷ batch 8 8
+    ∷ batch_open 3 7
+    ∷ capture 4 P 3001
+    ∷ capture 5 P 3000
+    ∷ credit 6 P 1200
+    ∷ capture_reversal 7 P 7
+    ∷ batch_close 8 7
     ∷ (0 ∷ [])
     ∷ []
 

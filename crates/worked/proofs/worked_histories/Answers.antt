@@ -12,6 +12,9 @@ worked = record {
   one_batch = (refl, refl, refl);
   in_doubt = (refl, refl);
   settled = (refl, refl);
+  undone_answers = refl;
+  undone_sums = (refl, refl, refl, refl);
+  while_open = refl;
 }
 
 pub returns : goal.returns
