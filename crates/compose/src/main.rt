@@ -18,9 +18,9 @@ use std::process::ExitCode;
 const HELP: &str = "\
 usage: compose < REHEARSAL > RECORDS
 Reads a rehearsal from standard input, a statement to a line, and writes its messages as records to
-standard output: a length byte and a message each. The lines about the bank and what is expected are
-passed over. A line that is no statement, or a message that the writer refuses, is told on standard
-error by the line's number and the reason, and not written; the status at the end is then 1.
+standard output: a length byte and a message each. The lines about the bank, `send on` and what is
+expected are passed over. A line that is no statement, or a message that the writer refuses, is told
+on standard error by its number and the reason, and not written; the status at the end is then 1.
 ";
 
 // A message as a record.

@@ -4,14 +4,18 @@
 
 ghost use Rattle.std.specs.Prelude.{◌+◌, ◌≤◌, length};
 ghost use Rattle.std.specs.Iterator.{IsFinite};
+ghost use Rattle.stand_in.specs.Sent.{StandInSends};
 
 use anyhow::{Context, anyhow};
 use console::arguments;
 use fields::kind::Kind;
 use gateway::{Gateway, Handled};
-use host::{Card, Host};
+use host::{Card, Host, SendsOn};
 use hosts::account_book::{Account, AccountBook, Hold};
+use hosts::voucher_drawer::VoucherDrawer;
 use layers::bad_line::{BadLine, LOSES_ANSWER, LOSES_CALL};
+use layers::range_split::RangeSplit;
+use stand_in::StandIn;
 use std::process::ExitCode;
 use wire::answer::FULL_LENGTH;
 use wire::message::{Fields, Xid};
@@ -20,7 +24,8 @@ use wire::{STRIP, write};
 const HELP: &str = "\
 usage: edges
 Reads nothing. Sends messages at the edges of the rules: bad lengths, cards and amounts, one
-purchase, answer and batch more than there is room for, and a put or an answer that is lost.
+purchase, answer and batch more than there is room for, a put or an answer that is lost, and
+sending on from a stand-in that is under a line and a split.
 Prints for each what it was answered: the code, and the amount in pence.
 ";
 
@@ -33,6 +38,9 @@ const ACCOUNTS: [Account; 1] = [Account {
 
 // As many rows as there can be purchases.
 const HOLDS: usize = 64;
+
+// The floor of a stand-in.
+const FLOOR: u64 = 1_000;
 
 const COURSE: u32 = 9;
 
@@ -244,11 +252,50 @@ fn lost_puts(rt: &HostRuntime, holds: &mut [Hold]) -> anyhow::Result<()> {
     )
 }
 
+// A gateway whose host is a split, with a line on its left, and a stand-in under that.
+type Branched<H, R> = Gateway<RangeSplit<BadLine<StandIn<H>>, R>>;
+
+// Sends on, which reaches the stand-in through both.
+fn send_on_below<H: SendsOn, R: SendsOn>(gateway: &mut Branched<H, R>)
+    ensures { StandInSends H.Host.put_step H.SendsOn.send_step
+        gateway.old.host.left.below gateway.new.host.left.below }
+{
+    gateway.send_on();
+}
+
+fn show_standing<H, R>(rt: &impl Print, gateway: &Branched<H, R>) -> anyhow::Result<()> {
+    let rows = gateway.host().left().below().rows();
+    let standing = rows.iter().filter(|row| row.stands()).count();
+    println!(rt; "rows that stand: {standing}")?;
+    Ok(())
+}
+
+// An authorisation within the floor of a stand-in whose own line loses the put, and sending on.
+fn one_sent_on(rt: &HostRuntime, holds: &mut [Hold]) -> anyhow::Result<()> {
+    let silent = BadLine::new(AccountBook::new(&ACCOUNTS, holds), &[LOSES_CALL]);
+    let line = BadLine::new(StandIn::new(silent, FLOOR), &[]);
+    let split = RangeSplit::new(line, VoucherDrawer::new(&mut []), 0, u64::MAX);
+    let Ok(mut gateway) = Gateway::new(rt.alloc(), split) else {
+        return Err(anyhow!("no memory for the books"));
+    };
+    println!(rt; "a stand-in under a line and a split:")?;
+    let authorised = send(&mut gateway, &authorisation(1, 1, FLOOR))?;
+    println!(rt; "authorisation: {authorised}")?;
+    show_standing(rt, &gateway)?;
+    send_on_below(&mut gateway);
+    println!(rt; "sent on")?;
+    show_standing(rt, &gateway)?;
+    let asked = send(&mut gateway, &inquiry(2, 1))?;
+    println!(rt; "inquiry: {asked}")?;
+    Ok(())
+}
+
 fn run(rt: &HostRuntime) -> anyhow::Result<()> {
     let mut holds = [Hold::FREE; HOLDS];
     malformed(rt, &mut new_gateway(rt, &mut holds, &[])?)?;
     one_too_many(rt, &mut holds)?;
-    lost_puts(rt, &mut holds)
+    lost_puts(rt, &mut holds)?;
+    one_sent_on(rt, &mut holds)
 }
 
 fn main(rt: HostRuntime) -> anyhow::Result<ExitCode> {

@@ -3,7 +3,8 @@
 ghost use Rattle.std.specs.Prelude.{◌≡◌, IfOk, IfErr, length};
 ghost use Rattle.rules.specs.Ledger.{no_ledger};
 ghost use Rattle.law.specs.Repeats.{full};
-ghost use Rattle.law.specs.Carried.{BeginsLaw, CarriesLaw, spelling};
+ghost use Rattle.law.specs.Between.{Between};
+ghost use Rattle.law.specs.Carried.{BeginsLaw, CarriesLaw, KeepsLaw, spelling};
 ghost use Rattle.wire.specs.Answer.{full_into};
 ghost use Rattle.wire.specs.Buffer.{over_front};
 ghost use Rattle.law.specs.History.{opened};
@@ -12,7 +13,7 @@ ghost use Rattle.gateway.specs.Performing.{Performs};
 
 use crate::books::Books;
 use crate::handled::Handled;
-use host::Host;
+use host::{Host, SendsOn};
 use rules::batch::Batch;
 use rules::outcome::{Outcome, Performed};
 use rules::plan::Plan;
@@ -47,8 +48,9 @@ fn answer_to(m: &Fields, performed: Performed) -> Answer
 /// A gateway over a host. Neither its books nor its host can be written from outside.
 ///
 /// The law over runs stands of it: `new` begins it over a host that holds nothing, and `perform`
-/// and `handle` carry it from any history that leads to the gateway to the longer one. That a
-/// history leads to the gateway (`Reached`) is the invariant by which the law is carried.
+/// and `handle` carry it from any history that leads to the gateway to the longer one; `send_on`
+/// keeps every such history. That a history leads to the gateway (`Reached`) is the invariant by
+/// which the law is carried.
 #[derive(Drop)]
 pub struct Gateway<H> {
     books: Books,
@@ -134,6 +136,22 @@ impl<H: Host> Gateway<H> {
                 Handled::Short(refusal)
             }
         }
+    }
+}
+
+impl<H: SendsOn> Gateway<H> {
+    /// Tells the host to send on what a stand-in answered in place of a silent bank: a call between
+    /// two messages. The books stay, every amount held stays, and each history that led to the
+    /// gateway still does.
+    #[tactic(auto, using(law::proofs::Between::keeps))]
+    pub fn send_on(&mut self)
+        ensures host { H.SendsOn.send_step self.old.host self.new.host }
+        ensures between { Between self.old.books (H.Host.held self.old.host)
+            self.new.books (H.Host.held self.new.host) }
+        ensures law { KeepsLaw H.Host.held self.old.books self.old.host
+            self.new.books self.new.host }
+    {
+        self.host.send_on();
     }
 }
 

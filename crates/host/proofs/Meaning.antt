@@ -86,7 +86,7 @@ module _ {fate : PutFates} {held : Holdings} {assent : Assents} {held' : Holding
   pub put_elsewhere : (pair' : Pair) → same_pair pair' pair ≡ false → held' pair' ≡ held pair'
   put_elsewhere pair' other = means.holds pair' ∙ held_elsewhere held pair _ pair' other
 
-  said_as : (q : PutReply) → r ≡ q → PutSays q (fate pair amount) (assent pair amount) amount (held pair) (held' pair)
+  pub said_as : (q : PutReply) → r ≡ q → PutSays q (fate pair amount) (assent pair amount) amount (held pair) (held' pair)
   said_as q e = subst (λ (p : PutReply). PutSays p (fate pair amount) (assent pair amount) amount (held pair) (held' pair)) e means.says
 
   pub done_holds : r ≡ Done → held' pair ≡ amount

@@ -4,6 +4,7 @@
 
 ghost use Rattle.host.specs.Meaning.{PutMeans, ReadMeans};
 ghost use Rattle.host.specs.Parts.{Assents, Holdings, PutFates, PutSteps, ReadFates, ReadSteps};
+ghost use Rattle.host.specs.Parts.{SameHeld};
 ghost use Rattle.host.specs.Words.{put_word, read_words};
 ghost use Rattle.std.specs.Prelude.{Some};
 
@@ -89,6 +90,19 @@ pub trait Host {
     fn read(&mut self, pair: Pair) -> ReadReply
         ensures means { ReadMeans (read_fate self.old) (held self.old) (held self.new) pair result }
         ensures step { read_step self.old pair result self.new };
+}
+
+/// A host that can be told to send on what a stand-in, itself or one below it, answered in place of
+/// a silent bank. Where there is none, nothing is sent on. Being told to is neither a put nor a
+/// read: it moves no amount held, and may come between any two calls.
+pub trait SendsOn: Host {
+    // the host before it sends on, and the host after
+    ghost send_step: { Self → Self → Type 0 };
+
+    /// Sends on to the bank what was answered in its place.
+    fn send_on(&mut self)
+        ensures holds { SameHeld (Self.held self.new) (Self.held self.old) }
+        ensures step { send_step self.old self.new };
 }
 
 impl fmt::Display for PutReply {

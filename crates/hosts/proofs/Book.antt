@@ -1,17 +1,16 @@
 -- Why the rows of an account book hold what the host's meaning says once an amount is written.
-use Rattle.std.proofs.Common.{◌≡◌, ℕ, ◌<◌, zero, suc, Bool, true, false, cond, ◌||◌, eqb, leb, ◌⊎◌, List, map, length, get_or, set, replicate, is_some, Some, None, Option, sym, refl, ap, ◌∙◌, inl, inr, arith}
-use Rattle.std.specs.Option.{option_or}
-use Rattle.std.specs.List.{AllWithin}
+use Rattle.std.proofs.Common.{◌≡◌, ℕ, zero, suc, Bool, true, false, cond, ◌||◌, eqb, leb, List, map, get_or, set, replicate, is_some, Some, None, Option, sym, refl, ap, ◌∙◌, inl, inr, arith}
 use Rattle.std.proofs.lemmas.Bool.{and_parts, both_ways, cond-false, cond_both, eqb-true}
 use Rattle.std.proofs.lemmas.Bool.Decides.{nat_tests}
-use Rattle.std.proofs.lemmas.List.Folds.{find_past}
-use Rattle.rows.specs.First.{first_with, Found}
-use Rattle.rows.proofs.First.{found_of_first, none_of_first, row_found, row_none, row_set_here, row_map_other, row_map_none}
+use Rattle.rows.specs.Either.{set_at}
+use Rattle.rows.specs.First.{first_with}
+use Rattle.rows.proofs.Either.{Placed, placed, placed_elsewhere, placed_here, unplaced, within_placed}
+use Rattle.rows.proofs.First.{none_of_first, row_found, row_none, row_map_other, row_map_none}
 use Rattle.host.specs.Parts.{Pence, HoldsNothing, SameHeld, same_pair}
 use Rattle.host.specs.Meaning.{grants, held_after}
 use Rattle.host.specs.declared.Pair.{Pair}
 use Rattle.host.proofs.Meaning.{held_by_pair}
-use Rattle.hosts.specs.Book.{is_free, is_hold, free_hold, freed, amount_of, held_in, place_for, PlacedAt, book_assents, set_at, written}
+use Rattle.hosts.specs.Book.{is_free, is_hold, free_hold, freed, amount_of, held_in, place_for, PlacedAt, book_assents, written}
 use Rattle.hosts.specs.Keeper.{granted}
 use Rattle.hosts.specs.declared.account_book.Account.{Account}
 use Rattle.hosts.specs.declared.account_book.Hold.{Hold}
@@ -27,39 +26,24 @@ new_stands : (pair : Pair) (amount : Pence) → eqb amount 0 ≡ false → is_ho
 new_stands pair amount some = grind (arith, nat_tests)
 
 module _ (holds : List Hold) (pair : Pair) where
-  -- the place for the pair is its first row, or the first free one where it has none
-  abbrev Placed : ℕ → Type 0
-  Placed place =
-      Found (is_hold pair) holds place
-      ⊎ (AllWithin (λ hold. is_hold pair hold ≡ false) holds 0 (length holds) × Found is_free holds place)
+  abbrev At : ℕ → Type 0
+  At = Placed (is_hold pair) is_free holds
 
-  place_cases : (own : Option ℕ) → first_with (is_hold pair) holds ≡ own → (place : ℕ) → option_or own (first_with is_free holds) ≡ Some place → Placed place
-  place_cases None none place e = inr (none_of_first (is_hold pair) holds none, found_of_first is_free holds place e)
-  place_cases (Some own) some place e = inl (found_of_first (is_hold pair) holds place (some ∙ e))
-
-  placed : (place : ℕ) → place_for holds pair ≡ Some place → Placed place
-  placed place e = place_cases (first_with (is_hold pair) holds) refl place e
-
-  -- so what is held stands at the place
-  in_placed : (place : ℕ) (d : Hold) → Placed place → held_in holds pair ≡ (get_or holds place d).amount
+  -- what is held stands at the place for the pair
+  in_placed : (place : ℕ) (d : Hold) → At place → held_in holds pair ≡ (get_or holds place d).amount
   in_placed place d (inl own) = ap amount_of (row_found (is_hold pair) holds place d own)
   in_placed place d (inr free) =
       ap amount_of (row_none (is_hold pair) holds free.0) ∙ sym (eqb-true (get_or holds place d).amount 0 (free.1.passes d))
 
-  within_placed : (place : ℕ) → Placed place → place < length holds
-  within_placed place (inl own) = own.within
-  within_placed place (inr free) = free.1.within
-
-  no_own : (own : Option ℕ) → option_or own (first_with is_free holds) ≡ None → own ≡ None
-  no_own None is = refl
-  no_own (Some own) is = absurd (cc)
+  at : (place : ℕ) → place_for holds pair ≡ Some place → At place
+  at = placed (is_hold pair) is_free holds
 
   pub placed_at : (answer : Option ℕ) → answer ≡ place_for holds pair → PlacedAt holds pair answer
   placed_at answer is = record {
     place = is;
-    within = λ place here. within_placed place (placed place (sym is ∙ here));
-    held = λ place d here. in_placed place d (placed place (sym is ∙ here));
-    nothing = λ none. ap amount_of (row_none (is_hold pair) holds (none_of_first (is_hold pair) holds (no_own (first_with (is_hold pair) holds) (sym is ∙ none))));
+    within = λ place here. within_placed (is_hold pair) is_free holds place (at place (sym is ∙ here));
+    held = λ place d here. in_placed place d (at place (sym is ∙ here));
+    nothing = λ none. ap amount_of (row_none (is_hold pair) holds (unplaced (is_hold pair) is_free holds (sym is ∙ none)));
   }
 
   -- a done put above 0 has a place
@@ -77,19 +61,13 @@ module _ (holds : List Hold) (pair : Pair) where
     abbrev new : Hold
     new = record { pair = pair; amount = amount }
 
-    set_here : (place : ℕ) → Placed place → eqb amount 0 ≡ false → held_in (set holds place new) pair ≡ amount
-    set_here place (inl own) some =
-        ap amount_of (row_set_here (is_hold pair) holds place new own.within own.none_before (new_stands pair amount some))
-    set_here place (inr free) some =
-        ap amount_of (row_set_here (is_hold pair) holds place new free.1.within (λ k d low high. free.0 k d low (omega (arith, free.1.within))) (new_stands pair amount some))
+    set_here : (place : ℕ) → At place → eqb amount 0 ≡ false → held_in (set holds place new) pair ≡ amount
+    set_here place stood some = ap amount_of (placed_here (is_hold pair) is_free holds place new stood (new_stands pair amount some))
 
-    set_elsewhere : (place : ℕ) → Placed place → (pair' : Pair) → same_pair pair' pair ≡ false → held_in (set holds place new) pair' ≡ held_in holds pair'
+    set_elsewhere : (place : ℕ) → At place → (pair' : Pair) → same_pair pair' pair ≡ false → held_in (set holds place new) pair' ≡ held_in holds pair'
     set_elsewhere place stood pair' other =
-        ap amount_of (find_past (is_hold pair') holds place new new (was stood) (grind (arith, nat_tests)))
-      where
-        was : Placed place → is_hold pair' (get_or holds place new) ≡ false
-        was (inl own) = one_pair pair pair' (get_or holds place new) other (own.passes new)
-        was (inr free) = free_stands_not pair' (get_or holds place new) (free.1.passes new)
+        ap amount_of
+        (placed_elsewhere (is_hold pair) is_free holds (is_hold pair') (λ hold. one_pair pair pair' hold other) (free_stands_not pair') place new stood (grind (arith, nat_tests)))
 
   cleared : (hold : Hold) → is_hold pair (freed pair hold) ≡ false
   cleared hold = at (is_hold pair hold) refl
@@ -118,7 +96,7 @@ module _ (holds : List Hold) (pair : Pair) where
   written_here amount room = by_amount (eqb amount 0) refl
     where
       by_place : eqb amount 0 ≡ false → (place : Option ℕ) → place_for holds pair ≡ place → held_in (set_at place (new amount) holds) pair ≡ amount
-      by_place some (Some place) e = set_here amount place (placed place e) some
+      by_place some (Some place) e = set_here amount place (at place e) some
       by_place some None e = absurd (both_ways _ (ap is_some e) (room some))
 
       by_amount : (none : Bool) → eqb amount 0 ≡ none → held_in (cond none (map (freed pair) holds) (set_at (place_for holds pair) (new amount) holds)) pair ≡ amount
@@ -129,7 +107,7 @@ module _ (holds : List Hold) (pair : Pair) where
   written_elsewhere amount pair' other = by_amount (eqb amount 0)
     where
       by_place : (place : Option ℕ) → place_for holds pair ≡ place → held_in (set_at place (new amount) holds) pair' ≡ held_in holds pair'
-      by_place (Some place) e = set_elsewhere amount place (placed place e) pair' other
+      by_place (Some place) e = set_elsewhere amount place (at place e) pair' other
       by_place None e = refl
 
       by_amount : (none : Bool) → held_in (cond none (map (freed pair) holds) (set_at (place_for holds pair) (new amount) holds)) pair' ≡ held_in holds pair'

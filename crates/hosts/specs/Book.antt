@@ -1,17 +1,17 @@
 -- An account book by its rows: what is held, what it assents to, and its rows after a put.
 use Rattle.std.specs.Prelude.{◌≡◌, ℕ, ◌+◌, ◌<◌, Bool, false, if◌then◌else◌, not, ◌&&◌, ◌==◌, nat_le}
-use Rattle.std.specs.Prelude.{List, map, sum_by, length, slice_set, slice_index_or}
+use Rattle.std.specs.Prelude.{List, map, sum_by, length, slice_index_or}
 use Rattle.std.specs.Prelude.{Option, Some, None, is_some}
-use Rattle.std.specs.Option.{option_or}
-use Rattle.rows.specs.First.{first_with, row_with}
+use Rattle.rows.specs.Either.{first_either, set_at}
+use Rattle.rows.specs.First.{row_with}
+use Rattle.rows.specs.declared.RowKey.{RowKey}
+use Rattle.rows.specs.declared.RowKey.TheVariants.{Of, Free}
 use Rattle.host.specs.Parts.{Pence, Holdings, Assents, same_card, same_pair}
 use Rattle.host.specs.declared.Card.{Card}
 use Rattle.host.specs.declared.Pair.{Pair}
 use Rattle.hosts.specs.Keeper.{granted}
 use Rattle.hosts.specs.declared.account_book.Account.{Account}
 use Rattle.hosts.specs.declared.account_book.Hold.{Hold}
-use Rattle.hosts.specs.declared.account_book.HoldKey.{HoldKey}
-use Rattle.hosts.specs.declared.account_book.HoldKey.TheVariants.{Of, Free}
 
 -- an account is looked for by its card
 abbrev pub is_account : Card → Account → Bool
@@ -24,7 +24,7 @@ is_free hold = hold.amount == 0
 abbrev pub is_hold : Pair → Hold → Bool
 is_hold pair hold = not (is_free hold) && same_pair hold.pair pair
 
-abbrev pub has_key : Hold → HoldKey → Bool
+abbrev pub has_key : Hold → RowKey Pair → Bool
 has_key hold (Of pair) = is_hold pair hold
 has_key hold Free = is_free hold
 
@@ -52,7 +52,7 @@ other_holds holds pair = sum_by (other_amount pair) holds
 
 -- where a hold of the pair is written: its row, else the first free one
 abbrev pub place_for : List Hold → Pair → Option ℕ
-place_for holds pair = option_or (first_with (is_hold pair) holds) (first_with is_free holds)
+place_for holds pair = first_either (is_hold pair) is_free holds
 
 -- what stands at that place: the pair's row, or a free one, of amount 0
 pub record PlacedAt (holds : List Hold) (pair : Pair) (answer : Option ℕ) : Type 0 where
@@ -75,10 +75,6 @@ book_assents accounts holds pair amount =
 -- the rows once a put is done: 0 frees the pair's row, any other amount is written into its place
 abbrev pub freed : Pair → Hold → Hold
 freed pair hold = if is_hold pair hold then free_hold else hold
-
-abbrev pub set_at : Option ℕ → Hold → List Hold → List Hold
-set_at None hold holds = holds
-set_at (Some place) hold holds = slice_set holds place hold
 
 abbrev pub written : List Hold → Pair → Pence → List Hold
 written holds pair amount =

@@ -1,15 +1,15 @@
 //! A host that keeps holds against the balances of accounts.
 ghost use Rattle.std.specs.Prelude.{◌≡◌, ◌+◌, map, length, replicate, is_some, nat_le};
 ghost use Rattle.host.specs.Parts.{HoldsNothing, heard_puts, heard_reads};
-ghost use Rattle.hosts.specs.Book.{PlacedAt, place_for, other_holds};
+ghost use Rattle.hosts.specs.Book.{PlacedAt, other_holds};
 ghost use Rattle.hosts.specs.Book.{free_hold, freed, has_key, is_account, written};
 ghost use Rattle.hosts.specs.BookHost.{BookPutStep, BookWritten, BookServes};
 ghost use Rattle.hosts.specs.BookHost.{book_assent, book_held};
 ghost use Rattle.hosts.specs.Keeper.{HeardReadStep};
 
 use crate::keeper::{self, Keeper};
-use host::{Amount, Card, Host, Pair, PutReply, ReadReply};
-use rows::{Keyed, search};
+use host::{Amount, Card, Host, Pair, PutReply, ReadReply, SendsOn};
+use rows::{Keyed, RowKey, place_for, search};
 
 /// What a card's holds are covered by. The first account with a card counts.
 #[derive(Clone, Copy, PartialEq, Eq, Debug)]
@@ -27,15 +27,6 @@ pub struct Hold {
     pub amount: Amount,
 }
 
-/// What a hold is looked for by.
-#[derive(Clone, Copy)]
-pub enum HoldKey {
-    /// The pair that it stands for.
-    Of(Pair),
-    /// That it is free.
-    Free,
-}
-
 impl Hold {
     /// A free row, as the book writes it.
     pub const FREE: Hold = Hold {
@@ -50,7 +41,7 @@ impl Hold {
     fn without(self, pair: Pair) -> Hold
         ensures { result ≡ freed pair self }
     {
-        if self.has(&HoldKey::Of(pair)) {
+        if self.has(&RowKey::Of(pair)) {
             Hold::FREE
         } else {
             self
@@ -69,28 +60,20 @@ impl Keyed for Account {
 }
 
 impl Keyed for Hold {
-    type Key = HoldKey;
+    type Key = RowKey<Pair>;
 
     ghost same = { has_key };
 
-    fn has(&self, key: &HoldKey) -> bool {
+    fn has(&self, key: &RowKey<Pair>) -> bool {
         match *key {
-            HoldKey::Of(pair) => {
+            RowKey::Of(pair) => {
                 self.pair.reference == pair.reference
                     && self.pair.card == pair.card
                     && self.amount != 0
             }
-            HoldKey::Free => self.amount == 0,
+            RowKey::Free => self.amount == 0,
         }
     }
-}
-
-/// Where a hold of the pair is written: its row, else the first free one.
-#[tactic(auto, using(rows::proofs::First::first_from_cases))]
-fn place_for(holds: &[Hold], pair: Pair) -> Option<usize>
-    ensures { result ≡ place_for holds.now pair }
-{
-    search(holds, &HoldKey::Of(pair)).or_else(|| search(holds, &HoldKey::Free))
 }
 
 /// Whether the balance covers the amount and the card's holds under other references.
@@ -162,7 +145,7 @@ impl<'a> AccountBook<'a> {
     pub fn held(&self, pair: Pair) -> Amount
         ensures { result ≡ book_held self.now pair }
     {
-        match search(self.holds, &HoldKey::Of(pair)) {
+        match search(self.holds, &RowKey::Of(pair)) {
             Some(place) => self.holds[place].amount,
             None => 0,
         }
@@ -185,7 +168,6 @@ impl Keeper for AccountBook<'_> {
 
     ghost written = { BookWritten };
 
-    #[tactic(auto, using(crate::proofs::Book::placed_at))]
     fn place(&self, pair: Pair) -> Option<usize> {
         place_for(self.holds, pair)
     }
@@ -234,4 +216,11 @@ impl Host for AccountBook<'_> {
     fn read(&mut self, pair: Pair) -> ReadReply {
         ReadReply::Holds(self.held(pair))
     }
+}
+
+/// It has nothing to send on: what it answers done it holds.
+impl SendsOn for AccountBook<'_> {
+    ghost send_step = { λ before after. after ≡ before };
+
+    fn send_on(&mut self) {}
 }

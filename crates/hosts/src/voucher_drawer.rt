@@ -8,7 +8,7 @@ ghost use Rattle.hosts.specs.DrawerHost.{drawer_assent, drawer_held};
 ghost use Rattle.hosts.specs.Keeper.{HeardReadStep};
 
 use crate::keeper::{self, Keeper};
-use host::{Amount, Card, Host, Pair, PutReply, ReadReply, Reference};
+use host::{Amount, Card, Host, Pair, PutReply, ReadReply, Reference, SendsOn};
 use rows::{Keyed, search};
 
 /// A prepaid voucher. The first one with a card counts.
@@ -196,4 +196,11 @@ impl Host for VoucherDrawer<'_> {
     fn read(&mut self, pair: Pair) -> ReadReply {
         ReadReply::Holds(self.held(pair))
     }
+}
+
+/// It has nothing to send on: what it answers done it holds.
+impl SendsOn for VoucherDrawer<'_> {
+    ghost send_step = { λ before after. after ≡ before };
+
+    fn send_on(&mut self) {}
 }

@@ -7,6 +7,7 @@ use Rattle.wire.specs.declared.message.Fields.{Fields}
 use Rattle.rules.specs.Ledger.{Ledger}
 use Rattle.rules.specs.Rules.{Call, Reply, no_call, put, read}
 use Rattle.law.specs.Between.{Between, KeptBetween}
+use Rattle.law.specs.Carried.{KeepsLaw}
 use Rattle.law.specs.History.{Entry, Given, opened}
 use Rattle.law.specs.Reached.{HandledByRules, Reached, Replies}
 use Rattle.law.proofs.Law.{law_over_runs}
@@ -58,3 +59,9 @@ pub kept_between : KeptBetween
 kept_between h l held l' held' reached between =
     let after = reached_still h l held l' held' reached between in
     (after, law_over_runs h l' held' after)
+
+-- so a call that leaves the books and every amount held keeps the law
+pub keeps : {H : Type 0} (held : H → Holdings) (l : Ledger) (host : H) (l' : Ledger) (host' : H) → Between l (held host) l' (held host') → KeepsLaw held l host l' host'
+keeps held l host l' host' between h reached =
+    let kept = kept_between h l (held host) l' (held host') reached between in
+    record { reached = kept.0; stands = kept.1 }

@@ -1,4 +1,4 @@
--- Between messages the books and every amount held stay the same.
+-- Between messages the books and every amount held stay the same. Sending on comes there.
 use Rattle.std.specs.Prelude.{◌≡◌, List}
 use Rattle.host.specs.Parts.{Holdings, SameHeld}
 use Rattle.rules.specs.Ledger.{Ledger}

@@ -11,9 +11,10 @@ ghost use Rattle.law.specs.Stands.{LawOverRuns};
 ///
 /// `Reached` is the invariant by which the calls of the gateway carry the law: it begins when a
 /// gateway is made, each message carries it from any history to the longer one, and the law stands
-/// wherever it holds (`law`). Between messages the books and every amount held stay the same, which
-/// keeps it (`between`). A message that is performed counts as its own bytes (`bytes`). The calls
-/// promise besides that a repeat leaves the host the same value.
+/// wherever it holds (`law`). Between messages, where a stand-in may be told to send on, the books
+/// and every amount held stay the same, and that keeps it (`between`). A message that is performed
+/// counts as its own bytes (`bytes`). The calls promise besides that a repeat leaves the host the
+/// same value.
 pub fn law_over_runs()
     ensures law { LawOverRuns }
     ensures between { KeptBetween }

@@ -66,6 +66,12 @@ abbrev pub line_read_step : {H : Type 0} → ReadSteps H → ReadSteps (BadLine 
 line_read_step step before pair answer after =
     LineStep (λ host reply host'. step host pair reply host') NoAnswer before answer after
 
+-- sending on spends no mark, and reaches the host below
+pub record LineSends {H : Type 0} (send : H → H → Type 0) (before after : BadLine H)
+    : Type 0 where
+  pub below : send before.below after.below
+  pub marks : marks_left after ≡ marks_left before
+
 -- its four parts, from those of the host below
 abbrev pub line_held : {H : Type 0} → (H → Holdings) → BadLine H → Holdings
 line_held held line = held line.below

@@ -41,6 +41,15 @@ module _ {L R : Type 0} where
       (λ host reply host'. right host pair reply host')
       before pair.card answer after
 
+  -- both sides send on, and the bounds are the same
+  pub record SplitSends
+      (left : L → L → Type 0) (right : R → R → Type 0) (before after : RangeSplit L R)
+      : Type 0 where
+    pub at_left : left before.left after.left
+    pub at_right : right before.right after.right
+    pub low : after.low ≡ before.low
+    pub high : after.high ≡ before.high
+
   abbrev pub split_held : (L → Holdings) → (R → Holdings) → RangeSplit L R → Holdings
   split_held left right split pair =
       if is_left split pair.card then left split.left pair else right split.right pair

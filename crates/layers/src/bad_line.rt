@@ -2,12 +2,13 @@
 ghost use Rattle.std.specs.Prelude.{◌≡◌, take, drop};
 ghost use Rattle.std.specs.Fn.{FnOnceReturnsAtMut};
 ghost use Rattle.host.specs.Parts.{NothingWhere};
-ghost use Rattle.layers.specs.Line.{LineStep, mark_fate, marks_left, most_marks, next_fate, spent};
+ghost use Rattle.layers.specs.Line.{LineSends, LineStep, mark_fate, marks_left, most_marks};
+ghost use Rattle.layers.specs.Line.{next_fate, spent};
 ghost use Rattle.layers.specs.Line.{line_assent, line_held, line_put_fate, line_put_step};
 ghost use Rattle.layers.specs.Line.{line_read_fate, line_read_step};
 
 use arrayvec::ArrayVec;
-use host::{Amount, Fate, Host, Pair, PutReply, ReadReply};
+use host::{Amount, Fate, Host, Pair, PutReply, ReadReply, SendsOn};
 
 /// The most marks that a line takes.
 pub const MARKS: usize = 64;
@@ -111,5 +112,14 @@ impl<H: Host> Host for BadLine<H> {
 
     fn read(&mut self, pair: Pair) -> ReadReply {
         self.carry(|below| below.read(pair), ReadReply::Silent)
+    }
+}
+
+/// The host below is told to send on. That is neither a put nor a read, so no mark is spent.
+impl<H: SendsOn> SendsOn for BadLine<H> {
+    ghost send_step = { LineSends H.SendsOn.send_step };
+
+    fn send_on(&mut self) {
+        self.below.send_on();
     }
 }

@@ -2,11 +2,11 @@
 ghost use Rattle.std.specs.Prelude.{◌≡◌};
 ghost use Rattle.host.specs.Parts.{NothingWhereBoth};
 ghost use Rattle.layers.specs.Digits.{LeadingSix, leading_six};
-ghost use Rattle.layers.specs.Split.{is_left, split_assent, split_held};
+ghost use Rattle.layers.specs.Split.{SplitSends, is_left, split_assent, split_held};
 ghost use Rattle.layers.specs.Split.{split_put_fate, split_put_step};
 ghost use Rattle.layers.specs.Split.{split_read_fate, split_read_step};
 
-use host::{Amount, Card, Host, Pair, PutReply, ReadReply};
+use host::{Amount, Card, Host, Pair, PutReply, ReadReply, SendsOn};
 
 /// The least number of more than six digits.
 const SEVEN_DIGITS: u64 = 1_000_000;
@@ -101,5 +101,15 @@ impl<L: Host, R: Host> Host for RangeSplit<L, R> {
         } else {
             self.right.read(pair)
         }
+    }
+}
+
+/// Both sides send on, the left one first.
+impl<L: SendsOn, R: SendsOn> SendsOn for RangeSplit<L, R> {
+    ghost send_step = { SplitSends L.SendsOn.send_step R.SendsOn.send_step };
+
+    fn send_on(&mut self) {
+        self.left.send_on();
+        self.right.send_on();
     }
 }

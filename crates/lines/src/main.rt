@@ -23,8 +23,8 @@ use std::process::ExitCode;
 
 const HELP: &str = "\
 usage: lines
-Reads nothing. Drives the four hosts through thirty puts and reads: a split by card over a line
-that loses calls and answers, over an account book, on the left, and a voucher drawer on the right.
+Reads nothing. Makes thirty puts and reads through a split by card over a line that loses calls and
+answers, over an account book, on the left, and a voucher drawer on the right.
 Prints for each call what was asked, what was answered and what is held after.
 ";
 

@@ -3,7 +3,8 @@ use Rattle.std.specs.Prelude.{◌≡◌, ◌⊎◌, ℕ, true, List, Option, Som
 use Rattle.std.specs.Borrow.{Bor}
 use Rattle.std.specs.List.{list_all}
 use Rattle.rehearsal.specs.declared.bank.BankLine.{BankLine}
-use Rattle.rehearsal.specs.declared.bank.BankLine.TheVariants.{Account, Rows, Voucher, Split, Line}
+use Rattle.rehearsal.specs.declared.bank.BankLine.TheVariants.{Account, Rows, Voucher, Split}
+use Rattle.rehearsal.specs.declared.bank.BankLine.TheVariants.{Line, StandIn}
 use Rattle.rehearsal.specs.declared.bank.BankWord.{BankWord}
 use Rattle.rehearsal.specs.declared.bank.BankWord.TheVariants as begins
 use Rattle.rehearsal.specs.declared.bank.Side.{Side}
@@ -17,6 +18,7 @@ bank_text begins.Rows = codes "rows"
 bank_text begins.Voucher = codes "voucher"
 bank_text begins.Split = codes "split"
 bank_text begins.Line = codes "line"
+bank_text begins.StandIn = codes "stand-in"
 
 -- the mark that a word stands for
 abbrev pub mark_of : List ℕ → Option ℕ
@@ -56,6 +58,7 @@ HasBank begins.Rows rest = (length rest ≡ 1) × IsUnsigned 8 (word rest 0)
 HasBank begins.Voucher rest = IsFunded rest
 HasBank begins.Split rest = IsSplit rest
 HasBank begins.Line rest = list_all (λ mark. is_some (mark_of mark.now)) rest ≡ true
+HasBank begins.StandIn rest = (length rest ≡ 1) × IsUnsigned 64 (word rest 0)
 
 -- the line that they make
 abbrev pub bank_in : BankWord → Bor Words → BankLine
@@ -64,3 +67,4 @@ bank_in begins.Rows rest = Rows (number_of (word rest.now 0))
 bank_in begins.Voucher rest = Voucher (number_of (word rest.now 0)) (number_of (word rest.now 1))
 bank_in begins.Split rest = split_in rest.now
 bank_in begins.Line rest = Line rest
+bank_in begins.StandIn rest = StandIn (number_of (word rest.now 0))

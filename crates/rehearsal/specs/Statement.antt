@@ -44,6 +44,7 @@ other_text other.Fresh = codes "fresh"
 other_text other.Repeat = codes "repeat"
 other_text other.Bytes = codes "bytes"
 other_text other.Expect = codes "expect"
+other_text other.SendOn = codes "send"
 
 -- the word that each statement begins with
 abbrev pub keyword_text : Keyword → List ℕ
@@ -71,6 +72,7 @@ HasRest other.Fresh rest = length rest ≡ 0
 HasRest other.Repeat rest = (length rest ≡ 1) × IsUnsigned 64 (word rest 0)
 HasRest other.Bytes rest = All (λ byte. IsByte byte.now) rest
 HasRest other.Expect rest = IsExpected rest
+HasRest other.SendOn rest = (length rest ≡ 1) × (word rest 0 ≡ codes "on")
 
 -- the statement that they make
 abbrev pub rest_in : OtherWord → Bor Words → Statement
@@ -81,6 +83,7 @@ rest_in other.Fresh rest = says.Fresh
 rest_in other.Repeat rest = says.Repeat (number_of (word rest.now 0))
 rest_in other.Bytes rest = says.Bytes rest
 rest_in other.Expect rest = expected_in rest.now
+rest_in other.SendOn rest = says.SendOn
 
 -- what a statement that begins so is read from, and as
 abbrev pub Reads : Keyword → Bor Words → Result Statement Fault → Type 0

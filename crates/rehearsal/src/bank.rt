@@ -17,6 +17,7 @@ pub enum BankWord {
     Voucher,
     Split,
     Line,
+    StandIn,
 }
 
 impl BankWord {
@@ -30,6 +31,7 @@ impl BankWord {
             "voucher" => BankWord::Voucher,
             "split" => BankWord::Split,
             "line" => BankWord::Line,
+            "stand-in" => BankWord::StandIn,
             _ => return None,
         })
     }
@@ -56,6 +58,8 @@ pub enum BankLine<'w> {
     Split { low: u64, high: u64, side: Side },
     /// What becomes of the next calls of the bank, each by a word that `mark_of` knows.
     Line(&'w [&'w str]),
+    /// A stand-in over the line, with this floor in pence.
+    StandIn(u64),
 }
 
 /// The mark of a bad line that a word stands for.
@@ -131,6 +135,7 @@ impl<'w> BankLine<'w> {
             BankWord::Split => BankLine::read_split(rest),
             BankWord::Line if are_marks(rest) => Ok(BankLine::Line(rest)),
             BankWord::Line => Err(Fault::Form),
+            BankWord::StandIn => Ok(BankLine::StandIn(pence(only(rest)?)?)),
         }
     }
 }

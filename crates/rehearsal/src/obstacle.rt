@@ -18,6 +18,8 @@ pub enum Obstacle {
     BankStands,
     /// It expects an answer where no message was sent.
     NothingSent,
+    /// It sends on where the bank has no stand-in.
+    NoStandIn,
     /// It repeats a message that was not sent, or too long ago.
     NotRemembered,
     /// Its bytes are more than a record holds.
@@ -47,9 +49,14 @@ impl fmt::Display for Obstacle {
                 write!(f, "not sent: the writer refuses it, {code} {refusal}")
             }
             Obstacle::BankStands => f.write_str(
-                "not done: the bank is described before the first message, or after `fresh`",
+                "not done: the bank is described before the first message or `send on`, or after \
+                 `fresh`",
             ),
             Obstacle::NothingSent => f.write_str("not done: no message was sent before it"),
+            Obstacle::NoStandIn => f.write_str(
+                "not done: the bank has no stand-in, which `stand-in PENCE` gives it where it is \
+                 described",
+            ),
             Obstacle::NotRemembered => f.write_str(
                 "not sent: no message of this request number is among the last 256",
             ),

@@ -122,8 +122,11 @@ impl Sender {
                 self.request = *request;
                 return Ok(None);
             }
-            Statement::Bank(_) | Statement::Case(_) | Statement::Fresh | Statement::Expect { .. } =>
-                { return Ok(None) }
+            Statement::Bank(_)
+            | Statement::Case(_)
+            | Statement::Fresh
+            | Statement::Expect { .. }
+            | Statement::SendOn => return Ok(None),
         };
         Ok(Some(bytes))
     }

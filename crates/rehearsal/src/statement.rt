@@ -29,6 +29,7 @@ pub enum OtherWord {
     Repeat,
     Bytes,
     Expect,
+    SendOn,
 }
 
 /// What a line says.
@@ -53,6 +54,8 @@ pub enum Statement<'w> {
     /// What the message before was answered: the code, and the amount where the answer is a full
     /// one.
     Expect { code: u8, amount: Option<i64> },
+    /// The bank's stand-in is to send on what it answered in the bank's place.
+    SendOn,
 }
 
 /// The byte that two hexadecimal digits write.
@@ -103,6 +106,7 @@ impl OtherWord {
             "repeat" => OtherWord::Repeat,
             "bytes" => OtherWord::Bytes,
             "expect" => OtherWord::Expect,
+            "send" => OtherWord::SendOn,
             _ => return None,
         })
     }
@@ -148,7 +152,8 @@ impl<'w> Statement<'w> {
             OtherWord::Repeat => Ok(Statement::Repeat(only_number(rest)?)),
             OtherWord::Bytes if are_bytes(rest) => Ok(Statement::Bytes(rest)),
             OtherWord::Expect => Statement::read_expected(rest),
-            OtherWord::Fresh | OtherWord::Bytes => Err(Fault::Form),
+            OtherWord::SendOn if only(rest)? == "on" => Ok(Statement::SendOn),
+            OtherWord::Fresh | OtherWord::Bytes | OtherWord::SendOn => Err(Fault::Form),
         }
     }
 

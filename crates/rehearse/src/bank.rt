@@ -1,20 +1,26 @@
 //! The bank of a rehearsal: an account book and a voucher drawer, split by card, behind a line that
-//! may lose calls and answers.
-use host::{Amount, Card, Host, Pair};
+//! may lose calls and answers, over which a stand-in may stand.
+use host::{Amount, Card, Pair, SendsOn};
 use hosts::account_book::{Account, AccountBook, Hold};
 use hosts::voucher_drawer::{Voucher, VoucherDrawer};
 use layers::bad_line::{BadLine, MARKS};
 use layers::range_split::RangeSplit;
 use rehearsal::bank::{BankLine, Side, mark_of};
+use stand_in::{Row, StandIn};
 use std::alloc::{AllocError, Global};
 
 /// How many rows the account book has where none are given.
 const ROWS: u8 = 4;
 
 /// A host that shows what it holds without a call.
-pub trait Shown: Host {
+pub trait Shown: SendsOn {
     /// What is held for the pair.
     fn amount_held(&self, pair: Pair) -> Amount;
+
+    /// Its rows where it is a stand-in, none for any other host.
+    fn rows(&self) -> &[Row] {
+        &[]
+    }
 }
 
 impl Shown for AccountBook<'_> {
@@ -45,6 +51,19 @@ impl<L: Shown, R: Shown> Shown for RangeSplit<L, R> {
     }
 }
 
+impl<H: Shown> Shown for StandIn<H> {
+    fn amount_held(&self, pair: Pair) -> Amount {
+        match self.row_amount(pair) {
+            Some(own) => own,
+            None => self.below().amount_held(pair),
+        }
+    }
+
+    fn rows(&self) -> &[Row] {
+        StandIn::rows(self)
+    }
+}
+
 /// The card of this number.
 fn card_of(number: u64) -> Card {
     Card { number }
@@ -71,10 +90,12 @@ pub struct Setup {
     pub high: u64,
     pub side: Side,
     pub marks: Vec<u8>,
+    /// The floor of the stand-in, where there is one.
+    pub floor: Option<Amount>,
 }
 
 impl Setup {
-    /// No accounts and no vouchers, and every card the book's.
+    /// No accounts and no vouchers, every card the book's, and no stand-in.
     pub fn new(alloc: Global) -> Setup {
         Setup {
             accounts: Vec::new(alloc),
@@ -84,6 +105,7 @@ impl Setup {
             high: u64::MAX,
             side: Side::Book,
             marks: Vec::new(alloc),
+            floor: None,
         }
     }
 
@@ -107,6 +129,7 @@ impl Setup {
                 self.side = side;
             }
             BankLine::Line(words) => add_marks(&mut self.marks, words)?,
+            BankLine::StandIn(floor) => self.floor = Some(floor),
         }
         Ok(())
     }

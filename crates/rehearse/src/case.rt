@@ -1,11 +1,11 @@
 //! A case of a rehearsal: a bank that is described, and the messages over it.
 use crate::bank::{Setup, Shown};
 use crate::line::Line;
-use crate::report::{Answered, Found, Numbers};
+use crate::report::{Answered, Found, Numbers, count_standing, show_rows};
 use crate::tally::Tally;
 use anyhow::{Context, anyhow};
 use gateway::Gateway;
-use host::Host;
+use host::{Amount, Host};
 use hosts::account_book::AccountBook;
 use hosts::voucher_drawer::VoucherDrawer;
 use layers::bad_line::BadLine;
@@ -16,6 +16,7 @@ use rehearsal::obstacle::Obstacle;
 use rehearsal::sender::{LONGEST, Sender};
 use rehearsal::statement::Statement;
 use rehearsal::words::words_of;
+use stand_in::StandIn;
 use std::alloc::{AllocError, Global};
 use std::io;
 use std::io::{BufWriter, Read, Write};
@@ -121,7 +122,8 @@ impl<W: Write + Drop> Desk<'_, W> {
             | Statement::Request(_)
             | Statement::Send(_)
             | Statement::Repeat(_)
-            | Statement::Bytes(_) => {}
+            | Statement::Bytes(_)
+            | Statement::SendOn => {}
         }
         Ok(Step::Done)
     }
@@ -150,6 +152,19 @@ impl<W: Write + Drop> Desk<'_, W> {
         }
         self.out.write_all(self.line.end()?)?;
         Ok(())
+    }
+
+    // Has the gateway send on, and shows how many rows of the stand-in went, and those that stay.
+    fn send_on<H: Shown>(&mut self, gateway: &mut Gateway<H>) -> anyhow::Result<Step> {
+        if gateway.host().rows().is_empty() {
+            return Ok(self.tell(&Obstacle::NoStandIn)?);
+        }
+        let stood = count_standing(gateway.host().rows());
+        gateway.send_on();
+        self.line.begin(self.number)?;
+        show_rows(stood, gateway.host().rows(), &mut self.line)?;
+        self.out.write_all(self.line.end()?)?;
+        Ok(Step::Done)
     }
 
     // Has the stage carry out the statement that a line makes.
@@ -196,9 +211,8 @@ impl Stage for Describing {
     ) -> anyhow::Result<Step> {
         match *statement {
             Statement::Bank(line) => self.setup.add(&line)?,
-            Statement::Send(_) | Statement::Repeat(_) | Statement::Bytes(_) => {
-                return Ok(Step::Over);
-            }
+            Statement::Send(_) | Statement::Repeat(_) | Statement::Bytes(_) | Statement::SendOn =>
+                return Ok(Step::Over),
             Statement::Fresh => *self = Describing::new(self.alloc),
             Statement::Course(_)
             | Statement::Request(_)
@@ -225,6 +239,9 @@ impl<H: Shown> Stage for Sending<'_, H> {
         desk: &mut Desk<'_, W>,
         statement: &Statement<'_>,
     ) -> anyhow::Result<Step> {
+        if matches!(statement, Statement::SendOn) {
+            return desk.send_on(&mut self.gateway);
+        }
         match self.sender.message(statement, &mut [0; LONGEST]) {
             Ok(Some(message)) => {
                 desk.handle(&mut self.gateway, message)?;
@@ -273,6 +290,21 @@ fn send_over<R: Read, W: Write + Drop, H: Shown + Drop>(
     go_through(alloc, lines, desk, &mut Sending { gateway, sender })
 }
 
+// Goes through the messages over a bank, with a stand-in over it where it has a floor.
+fn send_with<R: Read, W: Write + Drop, H: Shown + Drop>(
+    alloc: Global,
+    lines: &mut Lines<R>,
+    desk: &mut Desk<'_, W>,
+    sender: &mut Sender,
+    bank: H,
+    floor: Option<Amount>,
+) -> anyhow::Result<bool> {
+    match floor {
+        Some(floor) => send_over(alloc, lines, desk, sender, StandIn::new(bank, floor)),
+        None => send_over(alloc, lines, desk, sender, bank),
+    }
+}
+
 // The line to a bank of two hosts, of which the left one has the cards between the bounds.
 fn line_to<L: Host, R: Host>(
     left: L,
@@ -300,11 +332,11 @@ fn send_all<R: Read, W: Write + Drop>(
     match setup.side {
         Side::Book => {
             let bank = line_to(book, drawer, low, high, &setup.marks);
-            send_over(alloc, lines, desk, sender, bank)
+            send_with(alloc, lines, desk, sender, bank, setup.floor)
         }
         Side::Drawer => {
             let bank = line_to(drawer, book, low, high, &setup.marks);
-            send_over(alloc, lines, desk, sender, bank)
+            send_with(alloc, lines, desk, sender, bank, setup.floor)
         }
     }
 }

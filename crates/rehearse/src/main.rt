@@ -19,8 +19,8 @@ use std::process::ExitCode;
 const HELP: &str = "\
 usage: rehearse < REHEARSAL
 Reads a rehearsal from standard input, a statement to a line: first the bank, then messages.
-Prints for each message its answer, what the bank holds and what the books show, before it waits
-for more. A line that is no statement is told by its number and passed over.
+Prints for each message its answer, what the bank holds and what the books show, and for `send on`
+the rows that stay, before it waits for more. What is no statement is told by its line's number.
 Ends with status 1 where an answer is not the one that `expect` says, or a line is not carried out.
 ";
 

@@ -10,7 +10,8 @@ use gateway::batch::{Batch, BatchKey};
 use gateway::outcome::Performed;
 use gateway::purchase::Purchase;
 use host::{Amount, Pair};
-use rows::search;
+use rows::{RowKey, search};
+use stand_in::Row;
 use std::alloc::AllocError;
 use std::fmt;
 use wire::message::Fields;
@@ -73,6 +74,8 @@ impl fmt::Display for Numbers {
 pub struct Standing {
     pub purchase: Purchase,
     pub held: Amount,
+    /// Whether a row of the stand-in says so, and not the bank.
+    pub is_by_stand_in: bool,
 }
 
 impl Standing {
@@ -80,6 +83,9 @@ impl Standing {
         line.add("; card ")?;
         line.add_card(self.purchase.card.number)?;
         line.add_labelled(" holds ", self.held)?;
+        if self.is_by_stand_in {
+            line.add(" by the stand-in")?;
+        }
         line.add_labelled("; authorised ", self.purchase.authorised)?;
         line.add_labelled(", captured ", self.purchase.captured)?;
         line.add_labelled(", credited ", self.purchase.credited)?;
@@ -132,6 +138,27 @@ impl Found {
     }
 }
 
+/// How many rows of a stand-in stand.
+pub fn count_standing(rows: &[Row]) -> usize {
+    rows.iter().filter(|row| row.stands()).count()
+}
+
+/// Adds how many rows of those that stood were done, and each that still stands.
+pub fn show_rows(stood: usize, rows: &[Row], line: &mut Line) -> Result<(), AllocError> {
+    let done = stood.saturating_sub(count_standing(rows));
+    line.add_labelled("send on: rows done ", done)?;
+    line.add_labelled(" of ", stood)?;
+    for row in rows {
+        if let Row::Stands { pair, amount } = *row {
+            line.add("; card ")?;
+            line.add_card(pair.card.number)?;
+            line.add_labelled(", reference ", pair.reference)?;
+            line.add_labelled(", stands at ", amount)?;
+        }
+    }
+    Ok(())
+}
+
 // The purchase that a message names; its reference is its row number, from 1.
 fn find_purchase<H: Shown>(gateway: &Gateway<H>, fields: &Fields) -> Option<Standing> {
     let purchases = gateway.purchases();
@@ -141,8 +168,12 @@ fn find_purchase<H: Shown>(gateway: &Gateway<H>, fields: &Fields) -> Option<Stan
         card: purchase.card,
         reference: place as u64 + 1,
     };
-    let held = gateway.host().amount_held(pair);
-    Some(Standing { purchase, held })
+    let host = gateway.host();
+    Some(Standing {
+        purchase,
+        held: host.amount_held(pair),
+        is_by_stand_in: search(host.rows(), &RowKey::Of(pair)).is_some(),
+    })
 }
 
 // The batch that a message names.

@@ -1,0 +1,4 @@
+pub mod Rows
+pub mod Put
+pub mod Sent
+pub mod Floor
