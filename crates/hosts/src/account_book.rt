@@ -36,17 +36,6 @@ impl Hold {
         },
         amount: 0,
     };
-
-    /// The row, or a free one where it stands for the pair.
-    fn without(self, pair: Pair) -> Hold
-        ensures { result ≡ freed pair self }
-    {
-        if self.has(&RowKey::Of(pair)) {
-            Hold::FREE
-        } else {
-            self
-        }
-    }
 }
 
 impl Keyed for Account {
@@ -102,7 +91,9 @@ fn release(holds: &mut [Hold], pair: Pair)
     ensures { holds.new ≡ map (freed pair) holds.old }
 {
     for hold in holds.iter_mut() {
-        *hold = hold.without(pair);
+        if hold.has(&RowKey::Of(pair)) {
+            *hold = Hold::FREE;
+        }
     }
 }
 

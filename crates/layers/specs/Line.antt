@@ -47,7 +47,7 @@ fate_on_line LostReturning below = answer_lost below
 
 -- the marks that a line has left
 abbrev pub marks_left : {H : Type 0} → BadLine H → List ℕ
-marks_left line = line.marks.items
+marks_left line = line.marks
 
 -- one call: a mark is spent, and below is what this mark makes of the call
 pub record LineStep

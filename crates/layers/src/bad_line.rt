@@ -7,7 +7,7 @@ ghost use Rattle.layers.specs.Line.{next_fate, spent};
 ghost use Rattle.layers.specs.Line.{line_assent, line_held, line_put_fate, line_put_step};
 ghost use Rattle.layers.specs.Line.{line_read_fate, line_read_step};
 
-use arrayvec::ArrayVec;
+use arrayvec::{ArrayVec, IntoIter};
 use host::{Amount, Fate, Host, Pair, PutReply, ReadReply, SendsOn};
 
 /// The most marks that a line takes.
@@ -23,8 +23,8 @@ pub const LOSES_ANSWER: u8 = 2;
 #[derive(Drop)]
 pub struct BadLine<H> {
     below: H,
-    // those that are left, the next one first
-    marks: ArrayVec<u8, MARKS>,
+    // goes over the marks by their place, so that spending one moves none of the others
+    marks: IntoIter<u8, MARKS>,
 }
 
 /// What a mark does to a call that meets it.
@@ -48,7 +48,10 @@ impl<H: Host> BadLine<H> {
         let count = MARKS.min(marks.len());
         let mut left = ArrayVec::new();
         let _ = left.try_extend_from_slice(&marks[..count]);
-        BadLine { below, marks: left }
+        BadLine {
+            below,
+            marks: left.into_iter(),
+        }
     }
 
     /// Spends the next mark, and says what it does to the call.
@@ -57,7 +60,7 @@ impl<H: Host> BadLine<H> {
         ensures marks { marks_left self.new ≡ spent (marks_left self.old) }
         ensures below { self.new.below ≡ self.old.below }
     {
-        self.marks.pop_at(0).map_or(Fate::Heard, mark_fate)
+        self.marks.next().map_or(Fate::Heard, mark_fate)
     }
 
     /// Spends the next mark on the call, and makes it below unless the mark loses it; a call that

@@ -7,4 +7,4 @@ pub returns-clause-marks : goal.returns-clause-marks
 returns-clause-marks g c =
     let fits : IsOk c.try_extend_from_slice.result = c.try_extend_from_slice.ensures.variant.1 (rw (c.new-left.ensures, length-take) (omega arith)) in
     let copied : c.try_extend_from_slice.new.self.items ≡ take c.min-count.result c.args.marks.now = grind (arith, common_steps) in
-    copied ∙ ap (λ k. take k c.args.marks.now) c.min-count.ensures ∙ take_min 64 c.args.marks.now
+    c.into_iter.ensures.into_iter_gives.0 ∙ copied ∙ ap (λ k. take k c.args.marks.now) c.min-count.ensures ∙ take_min 64 c.args.marks.now
