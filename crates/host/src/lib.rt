@@ -31,7 +31,7 @@ pub struct Pair {
 }
 
 /// What becomes of a call on its way to the host and back.
-#[derive(Clone, Copy)]
+#[derive(Clone, Copy, PartialEq, Eq, Debug)]
 pub enum Fate {
     /// The host hears the call, and its reply comes back.
     Heard,

@@ -1,5 +1,7 @@
--- Laws of the first row that passes a test: found or not, and after rows are written.
-use Rattle.std.proofs.Common.{◌≡◌, ℕ, zero, suc, ◌<◌, Bool, true, false, cond, List, [], ◌∷◌, map, length, get_or, set, Some, None, Option, sym, refl, ap, subst, arith}
+-- Laws of the first row that passes a test: found or not, after rows are written, and after rows are
+-- added.
+use Rattle.std.proofs.Common.{◌≡◌, ℕ, zero, suc, ◌<◌, Bool, true, false, cond, List, [], ◌∷◌, ◌++◌, map, length, get_or, set, Some, None, Option, sym, refl, ap, subst, arith}
+use Rattle.std.proofs.lemmas.List.{append-nil}
 use Rattle.std.specs.Option.{option_map}
 use Rattle.std.specs.List.{AllWithin}
 use Rattle.rows.specs.First.{first_with, row_with, update_first, Found, FirstOrNone}
@@ -13,12 +15,16 @@ module _ {R : Type 0} (test : R → Bool) where
   sooner x xs n fails every zero d low high = fails
   sooner x xs n fails every (suc k) d low high = every k d (omega arith) (omega arith)
 
-  pub first_found : (rows : List R) (place : ℕ) → Found test rows place → first_with test rows ≡ Some place
-  first_found [] place found = absurd (omega (arith, found.within))
-  first_found (x ∷ xs) zero found = rw (found.passes x) refl
-  first_found (x ∷ xs) (suc place) found =
+  -- found first in the front of a list, whatever stands behind
+  pub first_append : (rows more : List R) (place : ℕ) → Found test rows place → first_with test (rows ++ more) ≡ Some place
+  first_append [] more place found = absurd (omega (arith, found.within))
+  first_append (x ∷ xs) more zero found = rw (found.passes x) refl
+  first_append (x ∷ xs) more (suc place) found =
       let rest : Found test xs place = record { within = omega (arith, found.within); passes = found.passes; none_before = later x xs place found.none_before } in
-      rw (found.none_before 0 x (omega arith) (omega arith)) (ap (option_map suc) (first_found xs place rest))
+      rw (found.none_before 0 x (omega arith) (omega arith)) (ap (option_map suc) (first_append xs more place rest))
+
+  pub first_found : (rows : List R) (place : ℕ) → Found test rows place → first_with test rows ≡ Some place
+  first_found rows place found = rw append-nil at (first_append rows [] place found)
 
   pub first_none : (rows : List R) → AllWithin (λ row. test row ≡ false) rows 0 (length rows) → first_with test rows ≡ None
   first_none [] every = refl
@@ -71,6 +77,12 @@ module _ {R : Type 0} (test : R → Bool) where
   stands_from_cases rows None every = row_none rows every
   stands_from_cases rows (Some place) found = λ d. row_found rows place d found
 
+  -- a row written in the place of one that passes or fails as it does
+  pub first_set : (rows : List R) (place : ℕ) (y d : R) → test y ≡ test (get_or rows place d) → first_with test (set rows place y) ≡ first_with test rows
+  first_set [] place y d e = refl
+  first_set (x ∷ xs) zero y d e = rw e refl
+  first_set (x ∷ xs) (suc place) y d e = ap (λ answer. cond (test x) (Some 0) (option_map suc answer)) (first_set xs place y d e)
+
   -- a row that passes, written where none before it does
   pub row_set_here : (rows : List R) (place : ℕ) (y : R) → place < length rows → AllWithin (λ row. test row ≡ false) rows 0 place → test y ≡ true → row_with test (set rows place y) ≡ Some y
   row_set_here [] place y within before passes = absurd (omega arith)
@@ -90,6 +102,16 @@ module _ {R : Type 0} (test : R → Bool) where
   pub row_map_none : (f : R → R) → ((x : R) → test (f x) ≡ false) → (rows : List R) → row_with test (map f rows) ≡ None
   row_map_none f fails [] = refl
   row_map_none f fails (x ∷ xs) = rw (fails x) (row_map_none f fails xs)
+
+  -- one more row behind the others
+  pub first_push_fails : (rows : List R) (y : R) → test y ≡ false → first_with test (rows ++ y ∷ []) ≡ first_with test rows
+  first_push_fails [] y fails = rw fails refl
+  first_push_fails (x ∷ xs) y fails = ap (λ answer. cond (test x) (Some 0) (option_map suc answer)) (first_push_fails xs y fails)
+
+  pub first_push_passes : (rows : List R) (y : R) → AllWithin (λ row. test row ≡ false) rows 0 (length rows) → test y ≡ true → first_with test (rows ++ y ∷ []) ≡ Some (length rows)
+  first_push_passes [] y every passes = rw passes refl
+  first_push_passes (x ∷ xs) y every passes =
+      rw (every 0 x (omega arith) (omega arith)) (ap (option_map suc) (first_push_passes xs y (later x xs (length xs) every) passes))
 
   -- the first row that passes, rewritten
   pub update_found : (f : R → R) (rows : List R) (place : ℕ) (d : R) → Found test rows place → update_first test f rows ≡ set rows place (f (get_or rows place d))
